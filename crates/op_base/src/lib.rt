@@ -1,0 +1,33 @@
+//! The types that every other crate speaks of: owned texts and lists, finite maps of texts, names,
+//! object keys and the step counter.
+//!
+//! Contracts see a [`Text`] as the list of its bytes, a [`List`] as the list of its items and a
+//! [`Table`] as its entries in the order of their keys. Read `specs/Maps.antt` and
+//! `specs/Names.antt` first.
+#![tactic(auto)]
+
+mod key;
+mod kind;
+mod list;
+mod matcher;
+mod memory;
+mod moment;
+mod names;
+mod span;
+mod spare;
+mod steps;
+mod table;
+mod text;
+
+pub use key::Key;
+pub use kind::Kind;
+pub use list::List;
+pub use matcher::{MatchOp, Matcher};
+pub use memory::NoMemory;
+pub use moment::Moment;
+pub use names::{is_label_name, is_metric_name, is_name, is_namespace};
+pub use span::Span;
+pub use spare::{Spare, insert_with};
+pub use steps::Steps;
+pub use table::Table;
+pub use text::Text;
