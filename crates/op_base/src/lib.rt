@@ -21,6 +21,7 @@ mod spare;
 mod steps;
 mod table;
 mod tags;
+mod template;
 mod text;
 
 pub use key::Key;
