@@ -5,4 +5,4 @@
 
 mod written;
 
-pub use written::{push_item, put_field, text_of};
+pub use written::{push_item, put_field, put_text, put_text_if, text_of};

@@ -1,7 +1,8 @@
-ghost use Rattle.std.specs.Prelude.{◌≡◌, IfOk, OnOk, map, List, ◌++◌, ◌∷◌, []};
+ghost use Rattle.std.specs.Prelude.{◌≡◌, IfOk, OnOk, map, option_map, List, ◌++◌, ◌∷◌, []};
 ghost use Rattle.serde_json.specs.View.{view, members_view};
 ghost use Rattle.serde_json.specs.Data.{put};
-ghost use Rattle.op_json.specs.Json.{Json, data_of, json_text};
+ghost use Rattle.op_json.specs.Json as json;
+ghost use Rattle.op_json.specs.Json.{Json, data_of, json_text, members_after, fields_of, given};
 
 use op_base::{List, NoMemory};
 use serde_json::{Map, Value};
@@ -35,4 +36,34 @@ pub fn push_item(items: &mut Vec<Value>, value: Value) -> Result<(), NoMemory>
 {
     items.push(value)?;
     Ok(())
+}
+
+/// Puts a text as one more field.
+pub fn put_text(
+    fields: &mut Map<String, Value>,
+    alloc: Global,
+    name: &str,
+    text: &str,
+) -> Result<(), NoMemory>
+    ensures { OnOk result (members_view fields.new.entries
+        ≡ put name.now (data_of (json.text text.now)) (members_view fields.old.entries)) }
+{
+    let value = Value::String(String::from_str(alloc, text)?);
+    put_field(fields, alloc, name, value)
+}
+
+/// Puts a text as one more field, where there is a text.
+pub fn put_text_if(
+    fields: &mut Map<String, Value>,
+    alloc: Global,
+    name: &str,
+    text: Option<&str>,
+) -> Result<(), NoMemory>
+    ensures { OnOk result (members_view fields.new.entries
+        ≡ members_after (members_view fields.old.entries) (fields_of (given name.now (option_map (λ t. json.text t.now) text.entry)))) }
+{
+    match text {
+        Some(text) => put_text(fields, alloc, name, text),
+        None => Ok(()),
+    }
 }
