@@ -1,0 +1,10 @@
+//! The trees of PromQL expressions, the words that the language reserves, and the type of a tree.
+//!
+//! The definitions of the whole language stand here, a page each: read `specs/Spells.antt` first.
+#![tactic(auto)]
+
+mod reserved;
+mod tree;
+
+pub use reserved::is_reserved;
+pub use tree::{AggregateOp, ArithOp, BinaryOp, Expr, Grouping, Matching, Side};
