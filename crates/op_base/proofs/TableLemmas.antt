@@ -12,7 +12,7 @@ use Rattle.std.specs.List.Sorted.{IsStrictlySortedBy}
 use Rattle.std.specs.List.{AllByRecursion}
 use Rattle.std.specs.String.{string_cmp}
 use Rattle.std.specs.BTreeMap.{insert_entry}
-use Rattle.op_base.specs.Maps.{Map, IsMap, keys_of}
+use Rattle.op_base.specs.Maps.{Map, IsMap, keys_of, values_of}
 
 module _ {X : Type 0} where
   abbrev shown : List (String Global × X) → Map X
@@ -61,3 +61,12 @@ module _ {X : Type 0} where
   listed es m keys given left seen all so_far done =
       sym (append-nil keys) ∙ ap (λ l. keys ++ map (λ k. string_bytes k) l) (sym done) ∙ sym so_far
       ∙ ap (map (λ k. string_bytes k)) all ∙ keys-shown es ∙ ap keys_of seen
+
+  values-shown : (es : List (String Global × X)) → map (λ e. e.1) es ≡ values_of (shown es)
+  values-shown [] = refl
+  values-shown (e ∷ es) = ap (λ vs. e.1 ∷ vs) (values-shown es)
+
+  pub drained : (es : List (String Global × X)) (m : Map X) (values given left : List X) → shown es ≡ m → given ≡ map (λ e. e.1) es → given ≡ values ++ left → left ≡ []
+      → values ≡ values_of m
+  drained es m values given left seen all so_far done =
+      sym (append-nil values) ∙ ap (λ l. values ++ l) (sym done) ∙ sym so_far ∙ all ∙ values-shown es ∙ ap values_of seen

@@ -30,6 +30,10 @@ without_entry entries key = where_key (slice_cmp nat_cmp) (λ other. not (eq_by_
 abbrev pub keys_of : {X : Type 0} → Map X → List (List ℕ)
 keys_of entries = map (λ entry. entry.0) entries
 
+-- the values in the order of their keys
+abbrev pub values_of : {X : Type 0} → Map X → List X
+values_of entries = map (λ entry. entry.1) entries
+
 -- the keys strictly rise in the order of their bytes
 abbrev pub IsMap : {X : Type 0} → Map X → Type 0
 IsMap entries = IsStrictlySortedBy (slice_cmp nat_cmp) (keys_of entries)
