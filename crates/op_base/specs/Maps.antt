@@ -2,7 +2,7 @@
 --
 -- A map is the list of its entries, so that it computes. `IsMap` says that the keys rise; each
 -- `Table` keeps it.
-use Rattle.std.specs.Prelude.{ℕ, List, Option, String, map, string_bytes}
+use Rattle.std.specs.Prelude.{ℕ, List, [], Option, String, map, string_bytes, unwrap_or}
 use Rattle.std.specs.declared.alloc.Global.{Global}
 use Rattle.std.specs.BTreeMap.{BTreeMap}
 use Rattle.std.specs.Ordering.{nat_cmp}
@@ -20,6 +20,11 @@ value_at entries key = finite.find (slice_cmp nat_cmp) key entries
 -- the map with the value at the key, over any that stood there
 abbrev pub with_entry : {X : Type 0} → Map X → List ℕ → X → Map X
 with_entry entries key value = finite.put (slice_cmp nat_cmp) key value entries
+
+-- a map of maps with the value at the two keys, in an inner map that is added where there is none
+abbrev pub with_inner : {X : Type 0} → Map (Map X) → List ℕ → List ℕ → X → Map (Map X)
+with_inner entries outer inner value =
+    with_entry entries outer (with_entry (unwrap_or (value_at entries outer) []) inner value)
 
 -- the keys in order
 abbrev pub keys_of : {X : Type 0} → Map X → List (List ℕ)
