@@ -10,4 +10,4 @@ mod selector;
 mod written;
 
 pub use config::{Config, Group, PlainSelector, Rule, RuleFile};
-pub use written::text;
+pub use written::{file_text, text};

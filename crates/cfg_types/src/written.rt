@@ -62,12 +62,13 @@ fn put_file(fields: &mut Map<String, Value>, alloc: Global, file: &RuleFile) -> 
     ensures { OnOk result (shown.members_view fields.new.entries
         ≡ put (spec.file_text file.now) (data_of (spec.file_json file.now)) (shown.members_view fields.old.entries)) }
 {
-    let name = file_text(alloc, file)?;
+    let name = file_text(file)?;
     let value = file_value(alloc, file)?;
     put_field(fields, alloc, name.as_str(), value)
 }
 
-fn file_text(alloc: Global, file: &RuleFile) -> Result<Text, NoMemory>
+/// The name of a rule file: `NAMESPACE/NAME`.
+pub fn file_text(file: &RuleFile) -> Result<Text, NoMemory>
     ensures { IfOk result (λ text. text ≡ spec.file_text file.now) }
 {
     let mut text = file.namespace.clone()?;

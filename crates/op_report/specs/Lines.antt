@@ -1,7 +1,10 @@
 -- Report lines: the namespace or `-`, a TAB, compact JSON with fields in byte order, a newline.
-use Rattle.std.specs.Prelude.{ℕ, pos, Bool, true, false, List, [], ◌∷◌, ◌++◌, map, Option, Some, None, option_map, codes}
+use Rattle.std.specs.Prelude.{ℕ, pos, Bool, true, false, List, [], ◌∷◌, ◌++◌, map, Option, Some, None, ◌==◌, ◌&&◌, ◌||◌, option_map, codes}
+use Rattle.std.specs.List.{list_all}
+use Rattle.std.specs.Cmp.Lexicographic.{pointwise}
 use Rattle.op_json.specs.Json.{Json, text, whole, array_of, object_of, given, json_text}
 use Rattle.op_report.specs.declared.view.Also.{Also}
+use Rattle.op_report.specs.declared.view.Report.{Report}
 use Rattle.op_report.specs.declared.view.View.{View}
 use Rattle.op_report.specs.declared.view.View.TheVariants.{Own, BadFile, NotYetFile}
 
@@ -53,3 +56,23 @@ tenant_line namespace view = line_of namespace view
 -- the line for everyone
 abbrev pub global_line : View → List ℕ
 global_line view = line_of (codes "-") view
+
+-- whom a report is for
+abbrev pub address_of : Option (List ℕ) → List ℕ
+address_of None = codes "-"
+address_of (Some namespace) = namespace
+
+-- the line of a report
+abbrev pub report_line : Report → List ℕ
+report_line report = line_of (address_of report.to) report.view
+
+-- an answer that leaves nothing refused or skipped
+abbrev pub is_good : List ℕ → Bool
+is_good answer =
+    pointwise ◌==◌ answer (codes "Admitted") || pointwise ◌==◌ answer (codes "Unselected") || pointwise ◌==◌ answer (codes "Deleted")
+
+-- each answer of the view is a good one
+abbrev pub answers_well : View → Bool
+answers_well (Own deleted key answer rule path also) = is_good answer && list_all (λ one. is_good one.answer) also
+answers_well (BadFile rule file item path) = false
+answers_well (NotYetFile file item) = false

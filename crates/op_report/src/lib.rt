@@ -4,8 +4,10 @@
 //! with the fields in byte order, and a newline.
 #![tactic(auto)]
 
+mod answer;
 mod line;
 mod view;
 
-pub use line::{global_line, tenant_line};
-pub use view::{Also, View};
+pub use answer::answers_well;
+pub use line::{global_line, report_line, tenant_line};
+pub use view::{Also, Report, View};

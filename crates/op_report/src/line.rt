@@ -1,11 +1,11 @@
-ghost use Rattle.std.specs.Prelude.{◌≡◌, true, pos, map, option_map, ◌∷◌, ◌++◌, [], IfOk, OnOk};
+ghost use Rattle.std.specs.Prelude.{◌≡◌, true, pos, map, option_map, ◌∷◌, ◌++◌, [], IfOk, IfSome, OnOk};
 ghost use Rattle.serde_json.specs.View as shown;
 ghost use Rattle.op_base.specs.Names.{is_namespace};
 ghost use Rattle.op_json.specs.Json.{data_of, members_after, fields_of, array_of};
 ghost use Rattle.serde_json.specs.Data.{no_members};
 ghost use Rattle.op_report.specs.Lines as spec;
 
-use crate::view::{Also, View};
+use crate::view::{Also, Report, View};
 use op_base::{List, NoMemory, Text};
 use op_json::{push_item, put_field, put_text, put_text_if, text_of};
 use serde_json::{Map, Value, json};
@@ -24,6 +24,17 @@ pub fn global_line(alloc: Global, view: &View) -> Result<List<u8>, NoMemory>
     ensures { IfOk result (λ line. line ≡ spec.global_line view.now) }
 {
     line_of(alloc, "-", view)
+}
+
+/// The line of a report, to its namespace or to everyone.
+pub fn report_line(alloc: Global, report: &Report) -> Result<List<u8>, NoMemory>
+    requires { IfSome report.now.to (λ namespace. is_namespace namespace ≡ true) }
+    ensures { IfOk result (λ line. line ≡ spec.report_line report.now) }
+{
+    match &report.to {
+        Some(namespace) => tenant_line(alloc, namespace.as_str(), &report.view),
+        None => global_line(alloc, &report.view),
+    }
 }
 
 fn line_of(alloc: Global, to: &str, view: &View) -> Result<List<u8>, NoMemory>

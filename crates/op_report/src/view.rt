@@ -35,3 +35,10 @@ pub enum View {
         item: u64,
     },
 }
+
+/// A view and whom it is for: a namespace, or everyone.
+#[derive(Debug, PartialEq, Eq, Drop)]
+pub struct Report {
+    pub to: Option<Text>,
+    pub view: View,
+}
