@@ -24,3 +24,6 @@ pub use real::{DirFolder, StdSink, StdSource};
 pub use sink::{Sink, put_all};
 pub use source::{Failed, Source};
 pub use sure::{SureFolder, SureSink, SureSource};
+
+#[cfg(test)]
+mod tests;
