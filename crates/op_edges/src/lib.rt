@@ -7,16 +7,23 @@
 
 mod files;
 mod folder;
+mod held;
+mod lines;
 mod memory;
 mod plan;
 mod real;
 mod sink;
 mod source;
+mod step;
 mod sure;
 
 pub use folder::{FileRead, Folder, FolderError};
+pub use lines::{Line, LineReader};
 pub use memory::{MemFolder, MemSink, MemSource};
 pub use real::{DirFolder, StdSink, StdSource};
 pub use sink::{Sink, put_all};
 pub use source::{Failed, Source};
 pub use sure::{SureFolder, SureSink, SureSource};
+
+#[cfg(test)]
+mod tests;
