@@ -1,1 +1,10 @@
+pub mod Children
+pub mod Clauses
+pub mod Durations
+pub mod Operators
 pub mod Reserved
+pub mod Selecting
+pub mod Spells
+pub mod Strings
+pub mod Tokens
+pub mod Words

@@ -4,7 +4,11 @@
 #![tactic(auto)]
 
 mod reserved;
+mod token;
 mod tree;
+mod word;
 
 pub use reserved::is_reserved;
+pub use token::{Token, TokenKind};
 pub use tree::{AggregateOp, ArithOp, BinaryOp, Expr, Grouping, Matching, Side};
+pub use word::{Keyword, Word};
