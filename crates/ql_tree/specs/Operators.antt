@@ -1,6 +1,6 @@
 -- The binary operators of PromQL and their levels: a lower level binds tighter, and each level is
 -- left-associative.
-use Rattle.std.specs.Prelude.{ℕ, Bool, true, false, List, Option, Some, None}
+use Rattle.std.specs.Prelude.{ℕ, Bool, true, false, Option, Some, None}
 use Rattle.ql_tree.specs.declared.tree.ArithOp.{ArithOp}
 use Rattle.ql_tree.specs.declared.tree.ArithOp.TheVariants.{Add, Sub, Mul, Div, Rem}
 use Rattle.ql_tree.specs.declared.tree.BinaryOp.{BinaryOp}
