@@ -1,5 +1,5 @@
 -- What an ordered map of owned texts shows is looked up, filled and ordered as the map is.
-use Rattle.std.proofs.Common.{◌≡◌, ℕ, Bool, List, [], ◌∷◌, map, Option, Some, None, String, string_bytes, cond, refl, ap, sym, subst, ◌∙◌, ◌++◌, append-nil}
+use Rattle.std.proofs.Common.{◌≡◌, ℕ, List, [], ◌∷◌, map, Some, String, string_bytes, cond, refl, ap, sym, subst, ◌∙◌, ◌++◌, append-nil}
 use Rattle.std.specs.declared.alloc.Global.{Global}
 use Rattle.std.specs.declared.cmp.Ordering.{Ordering}
 use Rattle.std.specs.declared.cmp.Ordering.TheVariants.{Less, Equal, Greater}

@@ -1,5 +1,5 @@
 -- Object keys and their texts, as report lines write them.
-use Rattle.std.specs.Prelude.{ℕ, List, ◌++◌, ◌∷◌, codes}
+use Rattle.std.specs.Prelude.{ℕ, List, ◌++◌, codes}
 use Rattle.op_base.specs.declared.kind.Kind.{Kind}
 use Rattle.op_base.specs.declared.kind.Kind.TheVariants.{ServiceMonitor, PodMonitor, Probe, PrometheusRule, AlertmanagerConfig, Secret, Namespace, Prometheus, Alertmanager}
 use Rattle.op_base.specs.declared.key.Key.{Key}

@@ -1,4 +1,6 @@
 pub mod Keys
+pub mod Labels
 pub mod Maps
 pub mod Names
+pub mod Entries
 pub mod formers

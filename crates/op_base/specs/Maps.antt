@@ -2,12 +2,13 @@
 --
 -- A map is the list of its entries, so that it computes. `IsMap` says that the keys rise; each
 -- `Table` keeps it.
-use Rattle.std.specs.Prelude.{ℕ, List, Option, String, map, string_bytes}
+use Rattle.std.specs.Prelude.{ℕ, List, Option, String, map, not, string_bytes}
 use Rattle.std.specs.declared.alloc.Global.{Global}
 use Rattle.std.specs.BTreeMap.{BTreeMap}
-use Rattle.std.specs.Ordering.{nat_cmp}
+use Rattle.std.specs.Ordering.{nat_cmp, eq_by_cmp}
 use Rattle.std.specs.Cmp.Lexicographic.{slice_cmp}
 use Rattle.std.specs.FinMap as finite
+use Rattle.std.specs.FinMap.Entries.{where_key}
 use Rattle.std.specs.List.Sorted.{IsStrictlySortedBy}
 
 abbrev pub Map : Type 0 → Type 0
@@ -20,6 +21,10 @@ value_at entries key = finite.find (slice_cmp nat_cmp) key entries
 -- the map with the value at the key, over any that stood there
 abbrev pub with_entry : {X : Type 0} → Map X → List ℕ → X → Map X
 with_entry entries key value = finite.put (slice_cmp nat_cmp) key value entries
+
+-- the map without the key
+abbrev pub without_entry : {X : Type 0} → Map X → List ℕ → Map X
+without_entry entries key = where_key (slice_cmp nat_cmp) (λ other. not (eq_by_cmp (slice_cmp nat_cmp) key other)) entries
 
 -- the keys in order
 abbrev pub keys_of : {X : Type 0} → Map X → List (List ℕ)

@@ -6,8 +6,10 @@
 //! `specs/Names.antt` first.
 #![tactic(auto)]
 
+mod entries;
 mod key;
 mod kind;
+mod labels;
 mod list;
 mod matcher;
 mod memory;
@@ -17,10 +19,12 @@ mod span;
 mod spare;
 mod steps;
 mod table;
+mod tags;
 mod text;
 
 pub use key::Key;
 pub use kind::Kind;
+pub use labels::Labels;
 pub use list::List;
 pub use matcher::{MatchOp, Matcher};
 pub use memory::NoMemory;
@@ -30,4 +34,5 @@ pub use span::Span;
 pub use spare::{Spare, insert_with};
 pub use steps::Steps;
 pub use table::Table;
+pub use tags::Tags;
 pub use text::Text;

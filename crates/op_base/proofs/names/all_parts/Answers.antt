@@ -1,5 +1,5 @@
 -- Each part that `split` gives is tested.
-use Rattle.std.proofs.Common.{rules, ◌≡◌}
+use Rattle.std.proofs.Common.{rules}
 use Rattle.std.proofs.lemmas.Iterator.Search.{all_from_yields_List}
 use Rattle.std.proofs.lemmas.Iterator.Splits.{YieldsList-from_slice_split}
 use Rattle.op_base.specs.Names as spec

@@ -1,0 +1,161 @@
+ghost use Rattle.std.specs.Prelude.{◌≡◌, ◌<◌, [], length, IfOk, OnOk, OnErr};
+ghost use Rattle.std.specs.Option.{option_copied};
+ghost use Rattle.op_base.specs.Maps.{value_at, without_entry};
+ghost use Rattle.op_base.specs.Labels.{IsLabels, labels_with, name_in, text_in};
+
+use crate::entries::{find, put, remove};
+use crate::memory::NoMemory;
+use crate::text::Text;
+use std::alloc::Global;
+use std::cmp::Ordering;
+use std::marker::Model;
+
+/// A label set of the Prometheus data model: a finite map from names to texts that aren't empty.
+/// Contracts see its entries in the order of the names. It keeps its allocator.
+#[derive(Debug, Drop)]
+pub struct Labels {
+    entries: Vec<(Text, Text)>,
+}
+
+impl Model for Labels {
+    ghost use Rattle.std.specs.Coded.{coded_list, coded_ℕ, coded×};
+    ghost use Rattle.op_base.specs.Labels.{Texts, IsLabels};
+
+    ghost Value = { Texts };
+
+    ghost coded = { coded_list (coded× (coded_list coded_ℕ) (coded_list coded_ℕ)) };
+
+    ghost view = { λ labels. labels.entries.items };
+
+    ghost invariant = { λ labels. IsLabels labels.entries.items };
+}
+
+impl Labels {
+    /// The empty label set.
+    pub fn new(alloc: Global) -> Labels
+        ensures { result ≡ [] }
+    {
+        Labels {
+            entries: Vec::new(alloc),
+        }
+    }
+
+    pub fn len(&self) -> usize
+        ensures len { result ≡ length self.now }
+        ensures labels { IsLabels self.now }
+    {
+        self.entries.len()
+    }
+
+    /// The value at the name.
+    pub fn get(&self, name: &str) -> Option<&str>
+        ensures value { option_copied result ≡ value_at self.now name.now }
+        ensures labels { IsLabels self.now }
+    {
+        find(self.entries.as_slice(), name)
+    }
+
+    /// Puts the value at the name, in place of any that stood there. An empty value removes the
+    /// name.
+    pub fn set(&mut self, name: &str, value: &str) -> Result<(), NoMemory>
+        ensures ok { OnOk result (self.new ≡ labels_with self.old name.now value.now) }
+        ensures err { OnErr result (self.new ≡ self.old) }
+    {
+        if value.is_empty() {
+            remove(&mut self.entries, name);
+            return Ok(());
+        }
+        let alloc = *self.entries.allocator();
+        let name = Text::from_str(alloc, name)?;
+        let value = Text::from_str(alloc, value)?;
+        put(&mut self.entries, name, value)
+    }
+
+    /// Removes the name, where it is there.
+    pub fn remove(&mut self, name: &str)
+        ensures { self.new ≡ without_entry self.old name.now }
+    {
+        remove(&mut self.entries, name);
+    }
+
+    /// The name at the place `index` in the order of names.
+    pub fn name_at(&self, index: usize) -> &str
+        requires { index < length self.now }
+        ensures { result.now ≡ name_in self.now index }
+    {
+        self.entries[index].0.as_str()
+    }
+
+    /// The value at the place `index` in the order of names.
+    pub fn value_at(&self, index: usize) -> &str
+        requires { index < length self.now }
+        ensures { result.now ≡ text_in self.now index }
+    {
+        self.entries[index].1.as_str()
+    }
+
+    /// An equal label set.
+    pub fn copy(&self) -> Result<Labels, NoMemory>
+        ensures { IfOk result (λ labels. labels ≡ self.now) }
+    {
+        Ok(Labels {
+            entries: self.entries.clone()?,
+        })
+    }
+}
+
+impl PartialEq for Labels {
+    ghost use Rattle.std.specs.Cmp.Lexicographic.{pointwise};
+    ghost use Rattle.std.specs.Cmp.Rules.{comparing};
+    ghost use Rattle.std.proofs.Common.{rules};
+    ghost use Rattle.op_base.specs.Labels.{entry_eq};
+
+    ghost eq = { pointwise entry_eq };
+
+    ghost laws = { Prim.search (comparing, rules) };
+
+    fn eq(&self, other: &Labels) -> bool {
+        self.entries == other.entries
+    }
+}
+
+impl Eq for Labels {
+    ghost use Rattle.std.specs.Cmp.Rules.{comparing};
+    ghost use Rattle.std.proofs.Common.{rules};
+
+    ghost laws = { Prim.search (comparing, rules) };
+}
+
+impl PartialOrd for Labels {
+    ghost use Rattle.std.specs.Ordering.{as_partial_cmp};
+    ghost use Rattle.std.specs.Cmp.{partial_order_from_own_ties};
+    ghost use Rattle.std.specs.Cmp.Rules.{comparing};
+    ghost use Rattle.std.proofs.Common.{rules};
+    ghost use Rattle.op_base.specs.Labels.{labels_cmp, labels_ties};
+
+    ghost partial_cmp = { as_partial_cmp labels_cmp };
+
+    ghost laws = { partial_order_from_own_ties (Prim.search (comparing, rules)) labels_ties };
+
+    fn partial_cmp(&self, other: &Labels) -> Option<Ordering> {
+        Some(self.cmp(other))
+    }
+}
+
+impl Ord for Labels {
+    ghost use Rattle.std.specs.Cmp.Rules.{comparing};
+    ghost use Rattle.std.proofs.Common.{rules};
+    ghost use Rattle.op_base.specs.Labels.{labels_cmp, labels_ties};
+
+    ghost cmp = { labels_cmp };
+
+    ghost total = { Prim.search (comparing, rules) };
+
+    ghost matches_partial_cmp = { Prim.search (comparing, rules) };
+
+    ghost matches_eq = { labels_ties };
+
+    fn cmp(&self, other: &Labels) -> Ordering {
+        self.entries.cmp(&other.entries)
+    }
+}

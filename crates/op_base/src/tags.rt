@@ -1,0 +1,115 @@
+ghost use Rattle.std.specs.Prelude.{◌≡◌, ◌<◌, [], length, IfOk, OnOk, OnErr};
+ghost use Rattle.std.specs.Option.{option_copied};
+ghost use Rattle.op_base.specs.Maps.{IsMap, value_at, with_entry};
+ghost use Rattle.op_base.specs.Labels.{name_in, text_in};
+
+use crate::entries::{find, put};
+use crate::memory::NoMemory;
+use crate::text::Text;
+use std::alloc::Global;
+use std::marker::Model;
+
+/// The labels of a Kubernetes object: a finite map from keys to texts that may be empty. Contracts
+/// see its entries in the order of the keys. It keeps its allocator.
+#[derive(Debug, Drop)]
+pub struct Tags {
+    entries: Vec<(Text, Text)>,
+}
+
+impl Model for Tags {
+    ghost use Rattle.std.specs.Coded.{coded_list, coded_ℕ, coded×};
+    ghost use Rattle.op_base.specs.Maps.{IsMap};
+    ghost use Rattle.op_base.specs.Labels.{Texts};
+
+    ghost Value = { Texts };
+
+    ghost coded = { coded_list (coded× (coded_list coded_ℕ) (coded_list coded_ℕ)) };
+
+    ghost view = { λ tags. tags.entries.items };
+
+    ghost invariant = { λ tags. IsMap tags.entries.items };
+}
+
+impl Tags {
+    /// No tags.
+    pub fn new(alloc: Global) -> Tags
+        ensures { result ≡ [] }
+    {
+        Tags {
+            entries: Vec::new(alloc),
+        }
+    }
+
+    pub fn len(&self) -> usize
+        ensures len { result ≡ length self.now }
+        ensures sorted { IsMap self.now }
+    {
+        self.entries.len()
+    }
+
+    /// The text at the key.
+    pub fn get(&self, key: &str) -> Option<&str>
+        ensures value { option_copied result ≡ value_at self.now key.now }
+        ensures sorted { IsMap self.now }
+    {
+        find(self.entries.as_slice(), key)
+    }
+
+    /// Puts the text at the key, in place of any that stood there.
+    pub fn set(&mut self, key: &str, value: &str) -> Result<(), NoMemory>
+        ensures ok { OnOk result (self.new ≡ with_entry self.old key.now value.now) }
+        ensures err { OnErr result (self.new ≡ self.old) }
+    {
+        let alloc = *self.entries.allocator();
+        let key = Text::from_str(alloc, key)?;
+        let value = Text::from_str(alloc, value)?;
+        put(&mut self.entries, key, value)
+    }
+
+    /// The key at the place `index` in the order of keys.
+    pub fn name_at(&self, index: usize) -> &str
+        requires { index < length self.now }
+        ensures { result.now ≡ name_in self.now index }
+    {
+        self.entries[index].0.as_str()
+    }
+
+    /// The text at the place `index` in the order of keys.
+    pub fn value_at(&self, index: usize) -> &str
+        requires { index < length self.now }
+        ensures { result.now ≡ text_in self.now index }
+    {
+        self.entries[index].1.as_str()
+    }
+
+    /// Equal tags.
+    pub fn copy(&self) -> Result<Tags, NoMemory>
+        ensures { IfOk result (λ tags. tags ≡ self.now) }
+    {
+        Ok(Tags {
+            entries: self.entries.clone()?,
+        })
+    }
+}
+
+impl PartialEq for Tags {
+    ghost use Rattle.std.specs.Cmp.Lexicographic.{pointwise};
+    ghost use Rattle.std.specs.Cmp.Rules.{comparing};
+    ghost use Rattle.std.proofs.Common.{rules};
+    ghost use Rattle.op_base.specs.Labels.{entry_eq};
+
+    ghost eq = { pointwise entry_eq };
+
+    ghost laws = { Prim.search (comparing, rules) };
+
+    fn eq(&self, other: &Tags) -> bool {
+        self.entries == other.entries
+    }
+}
+
+impl Eq for Tags {
+    ghost use Rattle.std.specs.Cmp.Rules.{comparing};
+    ghost use Rattle.std.proofs.Common.{rules};
+
+    ghost laws = { Prim.search (comparing, rules) };
+}
