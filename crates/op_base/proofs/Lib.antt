@@ -1,2 +1,4 @@
 pub mod EntryLemmas
+mod SpanLemmas
+mod SpanReadLemmas
 mod TableLemmas

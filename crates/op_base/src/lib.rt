@@ -30,7 +30,7 @@ pub use matcher::{MatchOp, Matcher};
 pub use memory::NoMemory;
 pub use moment::Moment;
 pub use names::{is_label_name, is_metric_name, is_name, is_namespace};
-pub use span::Span;
+pub use span::{Span, SpanFault, read_span, span_text};
 pub use spare::{Spare, insert_with};
 pub use steps::Steps;
 pub use table::Table;
