@@ -1,7 +1,7 @@
 -- Worked rows of the definitions.
 use Rattle.std.proofs.Common.{◌≡◌, [], ◌∷◌, Some, None, refl, codes}
 use lib.Utf8.{encode}
-use Rattle.ql_tree.specs.Durations.{duration_value}
+use Rattle.ql_tree.specs.Durations.{is_duration}
 use Rattle.ql_tree.specs.Tokens.{token_at, numeric_kind, symbol_at}
 use Rattle.ql_tree.specs.Strings.{inside_from, piece_at, escape_at, coded, numeral_at, string_value}
 use Rattle.ql_tree.specs.Words.{keyword_of}
@@ -12,7 +12,7 @@ use Rattle.ql_tree.specs.declared.word.Keyword.TheVariants as keyword
 
 -- `5x` is a number followed by anything else of a word
 number_and_word : token_at (codes "5x ") ≡ None
-unfolding token_at numeric_kind duration_value
+unfolding token_at numeric_kind is_duration
 number_and_word = refl
 
 too_large : token_at (codes "9223372036854775808") ≡ None

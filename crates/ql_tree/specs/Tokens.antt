@@ -6,7 +6,7 @@ use Rattle.std.specs.List.{list_all, prefix_len}
 use Rattle.std.specs.Str.Parse.{digits_value}
 use Rattle.op_base.specs.Names.{is_digit, is_metric_start, is_metric_byte}
 use Rattle.ql_tree.specs.Strings.{is_quote, inside_from}
-use Rattle.ql_tree.specs.Durations.{duration_value}
+use Rattle.ql_tree.specs.Durations.{is_duration}
 use Rattle.ql_tree.specs.declared.token.Token.{Token}
 use Rattle.ql_tree.specs.declared.token.TokenKind.{TokenKind}
 use Rattle.ql_tree.specs.declared.token.TokenKind.TheVariants.{Word, Number, Duration, Str, Symbol}
@@ -32,7 +32,7 @@ MOST = 9223372036854775807
 unfoldable pub numeric_kind : List ℕ → Option TokenKind
 numeric_kind run =
     if list_all is_digit run then (if nat_le (digits_value 10 run) MOST then Some Number else None)
-    else if is_some (duration_value run) then Some Duration else None
+    else if is_duration run then Some Duration else None
 
 -- `==`, `!=`, `>=`, `<=`, `=~` and `!~`
 abbrev pub is_double : ℕ → ℕ → Bool

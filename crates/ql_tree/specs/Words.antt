@@ -4,7 +4,7 @@ use Rattle.std.specs.Option.{unwrap_or}
 use Rattle.std.specs.Str.{str_eq_ignore_ascii_case}
 use Rattle.std.specs.Str.Parse.{digits_value}
 use Rattle.op_base.specs.declared.span.Span.{Span}
-use Rattle.ql_tree.specs.Durations.{duration_value}
+use Rattle.ql_tree.specs.Durations.{duration_of}
 use Rattle.ql_tree.specs.Reserved.{is_reserved}
 use Rattle.ql_tree.specs.Strings.{string_value}
 use Rattle.ql_tree.specs.declared.token.Token.{Token}
@@ -61,7 +61,7 @@ span_of milliseconds = record { 0 = milliseconds }
 unfoldable pub word_of : TokenKind → List ℕ → Word
 word_of kind.Word text = word.Name (keyword_of text) text
 word_of kind.Number text = word.Number (number_of (digits_value 10 text))
-word_of kind.Duration text = word.Duration (span_of (number_of (unwrap_or (duration_value text) 0)))
+word_of kind.Duration text = word.Duration (duration_of text)
 word_of kind.Str text = word.Quoted (string_value text)
 word_of kind.Symbol text = unwrap_or (found_in (bytes_eq text) symbols) word.Comma
 
