@@ -1,9 +1,12 @@
-ghost use Rattle.std.specs.Prelude.{◌≡◌, ◌+◌, ◌<◌, ◌≤◌, IsTrue, IfSome, length, drop};
+ghost use Rattle.std.specs.Prelude.{◌≡◌, ◌+◌, ◌<◌, ◌≤◌, IsTrue, IfSome, length};
 ghost use Rattle.std.specs.Char.{digit_value, is_digit};
 ghost use Rattle.std.specs.List.{list_all};
 ghost use Rattle.std.specs.Option.{option_map};
 ghost use Rattle.std.specs.Str.Parse.{digits_value};
 ghost use Rattle.ql_tree.specs.Strings as spec;
+ghost use Rattle.ql_token.specs.Inside.{IsStep, length_of};
+
+use crate::bytes::behind;
 
 /// The number that the next digits of the radix write, as many as asked.
 #[tactic(auto, unfolding(ql_tree::specs::Strings::numeral_at))]
@@ -193,5 +196,47 @@ fn behind_backslash(quote: u8, bytes: &[u8]) -> Option<usize>
     match escape(quote, bytes) {
         Some((_, taken)) => Some(1 + taken),
         None => None,
+    }
+}
+
+enum Step {
+    Close,
+    Piece(usize),
+    Broken,
+}
+
+fn next(quote: u8, bytes: &[u8]) -> Step
+    ensures { IsStep quote bytes.now result }
+{
+    match bytes {
+        [b, _rest @ ..] => {
+            if *b == quote {
+                return Step::Close;
+            }
+            match piece(quote, bytes) {
+                Some(n) => Step::Piece(n),
+                None => Step::Broken,
+            }
+        }
+        [] => Step::Broken,
+    }
+}
+
+/// How many bytes a string's inside takes, its closing quote included; none where it is broken.
+pub(crate) fn inside(quote: u8, bytes: &[u8]) -> Option<usize>
+    ensures inside { result ≡ length_of quote 0 bytes.now }
+    ensures within { IfSome result (λ n. n ≤ length bytes.now) }
+{
+    let mut rest = bytes;
+    let mut taken: usize = 0;
+    loop {
+        match next(quote, rest) {
+            Step::Close => return Some(taken + 1),
+            Step::Broken => return None,
+            Step::Piece(n) => {
+                taken += n;
+                rest = behind(rest, n);
+            }
+        }
     }
 }

@@ -38,11 +38,14 @@ numeric_kind run =
 abbrev pub is_double : ℕ → ℕ → Bool
 is_double b c = (c == 61 && (b == 61 || b == 33 || b == 62 || b == 60)) || (c == 126 && (b == 61 || b == 33))
 
--- `+ - * / % > < = ( ) { } [ ] ,`
+-- `( ) { } [ ]`
+abbrev pub is_bracket : ℕ → Bool
+is_bracket b = b == 40 || b == 41 || b == 123 || b == 125 || b == 91 || b == 93
+
+-- `+ - * / % > < =`, a bracket or `,`
 abbrev pub is_single : ℕ → Bool
 is_single b =
-    b == 43 || b == 45 || b == 42 || b == 47 || b == 37 || b == 62 || b == 60 || b == 61
-    || b == 40 || b == 41 || b == 123 || b == 125 || b == 91 || b == 93 || b == 44
+    b == 43 || b == 45 || b == 42 || b == 47 || b == 37 || b == 62 || b == 60 || b == 61 || is_bracket b || b == 44
 
 -- the text begins with a byte that makes a symbol of two of the one before it
 abbrev pub doubles : ℕ → List ℕ → Bool
