@@ -12,7 +12,7 @@ use ql_tree::TokenKind;
 #[tactic(auto, unfolding(ql_tree::specs::Tokens::token_at))]
 pub(crate) fn front(bytes: &[u8]) -> Option<(TokenKind, usize)>
     ensures token { result ≡ spec.token_at bytes.now }
-    ensures within { IfSome result (λ found. found.1 ≤ length bytes.now) }
+    ensures within { IfSome result (λ found. (0 < found.1) × (found.1 ≤ length bytes.now)) }
 {
     match bytes {
         [b, rest @ ..] => {
@@ -32,7 +32,7 @@ pub(crate) fn front(bytes: &[u8]) -> Option<(TokenKind, usize)>
 
 fn string(quote: u8, rest: &[u8]) -> Option<(TokenKind, usize)>
     ensures string { result ≡ option_map (λ found. (TokenKind.Str, 1 + found.1)) (inside_from quote 0 rest.now) }
-    ensures within { IfSome result (λ found. found.1 ≤ 1 + length rest.now) }
+    ensures within { IfSome result (λ found. (0 < found.1) × (found.1 ≤ 1 + length rest.now)) }
 {
     match inside(quote, rest) {
         Some(n) => Some((TokenKind::Str, 1 + n)),
@@ -43,7 +43,7 @@ fn string(quote: u8, rest: &[u8]) -> Option<(TokenKind, usize)>
 #[tactic(auto, unfolding(ql_tree::specs::Tokens::symbol_at))]
 fn symbol(b: u8, rest: &[u8]) -> Option<(TokenKind, usize)>
     ensures symbol { result ≡ spec.symbol_at b rest.now }
-    ensures within { IfSome result (λ found. found.1 ≤ 1 + length rest.now) }
+    ensures within { IfSome result (λ found. (0 < found.1) × (found.1 ≤ 1 + length rest.now)) }
 {
     if doubles(b, rest) {
         Some((TokenKind::Symbol, 2))

@@ -4,10 +4,12 @@
 #![tactic(auto)]
 
 mod bytes;
+mod cut;
 mod digits;
 mod fault;
 mod front;
 mod strings;
 
+pub use cut::tokens;
 pub use fault::TokenFault;
 pub use ql_tree::{Token, TokenKind};
