@@ -1,5 +1,5 @@
 -- How a text is cut step by step.
-use Rattle.std.proofs.Common.{◌≡◌, ◌≢◌, ℕ, zero, suc, ◌+◌, ◌<◌, ◌≤◌, List, [], ◌∷◌, ◌++◌, Option, Some, None, Result, Ok, Err, length, drop, refl, ap, sym, subst, ◌∙◌, arith, append-nil, append_assoc}
+use Rattle.std.proofs.Common.{◌≡◌, ℕ, ◌+◌, ◌<◌, List, [], ◌∷◌, ◌++◌, Some, None, Result, Ok, Err, length, drop, refl, ap, sym, subst, arith, append-nil, append_assoc}
 use Rattle.ql_tree.specs.Tokens.{gap_at, token_at, Cut, with_token, token_of}
 use Rattle.ql_tree.specs.declared.token.Token.{Token}
 use Rattle.ql_tree.specs.declared.token.TokenKind.{TokenKind}

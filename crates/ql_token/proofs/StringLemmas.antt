@@ -1,5 +1,5 @@
 -- How a string's inside is read piece by piece.
-use Rattle.std.proofs.Common.{◌≡◌, ◌≢◌, ℕ, zero, suc, ◌+◌, ◌-◌, ◌<◌, ◌≤◌, Bool, true, false, List, [], ◌∷◌, ◌++◌, Option, Some, None, ◌==◌, length, drop, get_or, refl, ap, sym, subst, ◌∙◌, arith, zero-add}
+use Rattle.std.proofs.Common.{◌≡◌, ◌≢◌, ℕ, zero, suc, ◌+◌, ◌-◌, ◌<◌, true, false, List, [], ◌∷◌, Option, Some, None, ◌==◌, length, drop, get_or, refl, ap, sym, ◌∙◌, arith, zero-add}
 use Rattle.std.specs.Option.{option_and_then, option_map}
 use Rattle.ql_tree.specs.Strings.{inside_from, piece_at, one_more, behind_piece}
 use Rattle.ql_token.specs.Inside.{length_of, after}

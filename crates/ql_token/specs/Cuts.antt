@@ -1,5 +1,5 @@
 -- One step of the way through a text.
-use Rattle.std.specs.Prelude.{◌≡◌, ℕ, ◌<◌, ◌≤◌, List, Option, Some, None, length}
+use Rattle.std.specs.Prelude.{◌≡◌, ℕ, ◌<◌, ◌≤◌, List, Some, None, length}
 use Rattle.ql_tree.specs.Tokens.{gap_at, token_at}
 use Rattle.ql_token.specs.declared.cut.Step.{Step}
 use Rattle.ql_token.specs.declared.cut.Step.TheVariants.{Gap, Token, Bad}

@@ -1,4 +1,6 @@
 ghost use Rattle.std.specs.Prelude.{◌≡◌, ◌<◌, ℕ, IfOk, length};
+ghost use Rattle.std.specs.Prelude as seen;
+ghost use Rattle.ql_tree.specs.declared.token.Token.{Token};
 ghost use Rattle.ql_tree.specs.Tokens.{IsTokens, IsBadAt};
 ghost use Rattle.ql_token.specs.Cuts.{IsStep};
 
@@ -36,6 +38,8 @@ fn next(bytes: &[u8]) -> Step
 pub fn tokens(alloc: Global, text: &str) -> Result<List<Token>, TokenFault>
     ensures tokens { IfOk result (λ found. IsTokens text.now found) }
     ensures bad_char { (place : ℕ) → result ≡ Err (TokenFault.BadChar place) → IsBadAt text.now place }
+    ensures no_tokens { (place : ℕ) (found : seen.List Token) → result ≡ Err (TokenFault.BadChar place)
+        → ¬ (IsTokens text.now found) }
 {
     let mut found = List::new(alloc);
     let mut rest = text.as_bytes();
