@@ -1,4 +1,5 @@
 pub mod EntryLemmas
+mod PatternLemmas
 mod SpanLemmas
 mod SpanReadLemmas
 mod TableLemmas

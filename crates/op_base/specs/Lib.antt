@@ -1,7 +1,9 @@
 pub mod Keys
 pub mod Labels
 pub mod Maps
+pub mod Matchers
 pub mod Names
+pub mod Patterns
 pub mod Spans
 pub mod Entries
 pub mod formers

@@ -1,0 +1,39 @@
+-- What a matcher means on a label set, after PromQL: a missing label counts as the empty text.
+use Rattle.std.specs.Prelude.{ℕ, Bool, not, List, [], bytes_eq, unwrap_or}
+use Rattle.op_base.specs.declared.matcher.MatchOp.{MatchOp}
+use Rattle.op_base.specs.declared.matcher.MatchOp.TheVariants.{Eq, Ne, Re, Nr}
+use Rattle.op_base.specs.declared.matcher.Matcher.{Matcher}
+use Rattle.op_base.specs.declared.matcher.MatchFault as declared
+use Rattle.op_base.specs.declared.matcher.MatchFault.TheVariants as fault
+use Rattle.op_base.specs.declared.pattern.PatternFault.{PatternFault}
+use Rattle.op_base.specs.declared.pattern.PatternFault.TheVariants.{BadPattern, NoMemory}
+use Rattle.op_base.specs.Maps.{value_at}
+use Rattle.op_base.specs.Labels.{Texts}
+use Rattle.op_base.specs.Patterns.{IsPattern, pattern_matches}
+
+-- the value of a label, or the empty text
+abbrev pub label_value : Texts → List ℕ → List ℕ
+label_value labels name = unwrap_or (value_at labels name) []
+
+-- whether the value passes
+abbrev pub passes : MatchOp → List ℕ → List ℕ → Bool
+passes Eq text value = bytes_eq text value
+passes Ne text value = not (bytes_eq text value)
+passes Re text value = pattern_matches text value
+passes Nr text value = not (pattern_matches text value)
+
+-- whether the matcher holds on the labels
+abbrev pub holds_on : Matcher → Texts → Bool
+holds_on matcher labels = passes matcher.op matcher.value (label_value labels matcher.name)
+
+-- with `=~` and `!~`, the text is a pattern
+abbrev pub HasPattern : MatchOp → List ℕ → Type 0
+HasPattern Eq text = Unit {0}
+HasPattern Ne text = Unit {0}
+HasPattern Re text = IsPattern text
+HasPattern Nr text = IsPattern text
+
+-- the fault of a matcher's pattern
+abbrev pub fault_of : PatternFault → declared.MatchFault
+fault_of BadPattern = fault.BadPattern
+fault_of NoMemory = fault.NoMemory
