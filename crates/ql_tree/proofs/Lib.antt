@@ -1,2 +1,3 @@
+mod NodeLemmas
 mod Rows
 pub mod TokenLemmas

@@ -8,6 +8,7 @@ pub mod Patterns
 pub mod Printed
 pub mod Reserved
 pub mod Selecting
+pub mod Shapes
 pub mod Spells
 pub mod Strings
 pub mod Tokens

@@ -8,7 +8,8 @@ use Rattle.op_base.specs.declared.matcher.Matcher.{Matcher}
 use Rattle.op_base.specs.declared.matcher.MatchOp.{MatchOp}
 use Rattle.op_base.specs.declared.matcher.MatchOp.TheVariants as match
 use Rattle.op_base.specs.declared.span.Span.{Span}
-use Rattle.ql_tree.specs.Calls.{call_shape, type_of_shape}
+use Rattle.ql_tree.specs.Calls.{call_shape}
+use Rattle.ql_tree.specs.Shapes.{have_types, text_at, type_of_shape}
 use Rattle.ql_tree.specs.Children.{children_of}
 use Rattle.ql_tree.specs.Operators.{is_comparison}
 use Rattle.ql_tree.specs.Patterns.{is_pattern}
@@ -22,6 +23,7 @@ use Rattle.ql_tree.specs.declared.tree.Expr.TheFolds.{fold-Expr}
 use Rattle.ql_tree.specs.declared.tree.Matching.{Matching}
 use Rattle.ql_tree.specs.declared.tree.Side.{Side}
 use Rattle.ql_tree.specs.declared.types.ExprType.{ExprType}
+use Rattle.ql_tree.specs.declared.types.ExprType.TheVariants.{Scalar, Vector, Str}
 use Rattle.ql_tree.specs.declared.types.Shape.{Shape}
 use Rattle.ql_tree.specs.declared.types.Shape.TheVariants as shape
 
@@ -43,10 +45,10 @@ abbrev pub select_shape : List Matcher → Option Span → Option Shape
 select_shape matchers range = if list_all is_sound matchers then Some (window_shape range) else None
 
 -- a sign keeps a scalar or a vector
-abbrev pub sign_shape : List Shape → Option Shape
-sign_shape (shape.Scalar ∷ []) = Some shape.Scalar
-sign_shape (shape.Vector ∷ []) = Some shape.Vector
-sign_shape _ = None
+unfoldable pub sign_shape : List Shape → Option Shape
+sign_shape shapes =
+    if have_types shapes (Scalar ∷ []) then Some shape.Scalar
+    else if have_types shapes (Vector ∷ []) then Some shape.Vector else None
 
 abbrev pub is_set : BinaryOp → Bool
 is_set And = true
@@ -72,31 +74,39 @@ abbrev pub has_no_matching : Option Matching → Bool
 has_no_matching None = true
 has_no_matching (Some m) = false
 
+-- neither `and`, `unless` or `or` nor matching
+abbrev pub takes_scalars : BinaryOp → Option Matching → Bool
+takes_scalars op m = not (is_set op) && has_no_matching m
+
 -- arithmetic of two scalars is a scalar, with a vector a vector; so is a comparison, which needs `bool`
 -- between two scalars. `and`, `unless`, `or` and matching need two vectors.
-abbrev pub binary_shape : BinaryOp → Bool → Option Matching → List Shape → Option Shape
-binary_shape op boolean m (shape.Scalar ∷ shape.Scalar ∷ []) =
-    if not (is_set op) && has_no_matching m && (boolean || not (is_comparison op)) then Some shape.Scalar else None
-binary_shape op boolean m (shape.Scalar ∷ shape.Vector ∷ []) = if not (is_set op) && has_no_matching m then Some shape.Vector else None
-binary_shape op boolean m (shape.Vector ∷ shape.Scalar ∷ []) = if not (is_set op) && has_no_matching m then Some shape.Vector else None
-binary_shape op boolean m (shape.Vector ∷ shape.Vector ∷ []) = if may_match op m then Some shape.Vector else None
-binary_shape op boolean m _ = None
+unfoldable pub binary_shape : BinaryOp → Bool → Option Matching → List Shape → Option Shape
+binary_shape op boolean m shapes =
+    if have_types shapes (Scalar ∷ Scalar ∷ [])
+    then (if takes_scalars op m && (boolean || not (is_comparison op)) then Some shape.Scalar else None)
+    else if have_types shapes (Scalar ∷ Vector ∷ []) || have_types shapes (Vector ∷ Scalar ∷ [])
+    then (if takes_scalars op m then Some shape.Vector else None)
+    else if have_types shapes (Vector ∷ Vector ∷ []) then (if may_match op m then Some shape.Vector else None) else None
+
+-- there is one operand on either side
+abbrev pub operands_shape : ℕ → ℕ → BinaryOp → Bool → Option Matching → List Shape → Option Shape
+operands_shape lefts rights op boolean m shapes = if lefts == 1 && rights == 1 then binary_shape op boolean m shapes else None
 
 -- `count_values` has a string that is a label name, `topk` and `bottomk` a scalar, the others nothing
-abbrev pub takes_parameter : AggregateOp → List Shape → Bool
-takes_parameter CountValues (shape.Str label ∷ []) = is_label_name label
-takes_parameter CountValues _ = false
-takes_parameter TopK (shape.Scalar ∷ []) = true
-takes_parameter TopK _ = false
-takes_parameter BottomK (shape.Scalar ∷ []) = true
-takes_parameter BottomK _ = false
-takes_parameter op [] = true
-takes_parameter op _ = false
+unfoldable pub takes_parameter : AggregateOp → List Shape → Bool
+takes_parameter CountValues param = have_types param (Str ∷ []) && is_label_name (text_at 0 param)
+takes_parameter TopK param = have_types param (Scalar ∷ [])
+takes_parameter BottomK param = have_types param (Scalar ∷ [])
+takes_parameter _ param = have_types param []
 
 -- an aggregate is of a vector
-abbrev pub aggregate_shape : AggregateOp → List Shape → List Shape → Option Shape
-aggregate_shape op param (shape.Vector ∷ []) = if takes_parameter op param then Some shape.Vector else None
-aggregate_shape op param _ = None
+unfoldable pub aggregate_shape : AggregateOp → List Shape → List Shape → Option Shape
+aggregate_shape op param of =
+    if have_types of (Vector ∷ []) && takes_parameter op param then Some shape.Vector else None
+
+-- the first children are its parameter
+abbrev pub split_shape : ℕ → AggregateOp → List Shape → Option Shape
+split_shape params op shapes = aggregate_shape op (take params shapes) (drop params shapes)
 
 -- what a node is whose children are these
 abbrev pub rule_of : {X : Type 0} → Expr-F X → List Shape → Option Shape
@@ -104,11 +114,9 @@ rule_of (Expr-F.Number n) shapes = Some shape.Scalar
 rule_of (Expr-F.Str text) shapes = Some (shape.Str text)
 rule_of (Expr-F.Select name matchers range offset) shapes = select_shape matchers range
 rule_of (Expr-F.Unary minus of) shapes = sign_shape shapes
-rule_of (Expr-F.Binary op boolean m left right) shapes =
-    if length left == 1 && length right == 1 then binary_shape op boolean m shapes else None
+rule_of (Expr-F.Binary op boolean m left right) shapes = operands_shape (length left) (length right) op boolean m shapes
 rule_of (Expr-F.Call function args) shapes = call_shape function shapes
-rule_of (Expr-F.Aggregate op grouping param of) shapes =
-    aggregate_shape op (take (length param) shapes) (drop (length param) shapes)
+rule_of (Expr-F.Aggregate op grouping param of) shapes = split_shape (length param) op shapes
 
 abbrev pub all_some : List (Option Shape) → Option (List Shape)
 all_some [] = Some []
