@@ -4,7 +4,13 @@
 #![tactic(auto)]
 
 mod reserved;
+mod token;
 mod tree;
+mod types;
+mod word;
 
 pub use reserved::is_reserved;
+pub use token::{Token, TokenKind};
 pub use tree::{AggregateOp, ArithOp, BinaryOp, Expr, Grouping, Matching, Side};
+pub use types::{ExprType, Shape};
+pub use word::{Keyword, Word};
