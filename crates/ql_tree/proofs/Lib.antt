@@ -1,0 +1,3 @@
+mod NodeLemmas
+mod Rows
+pub mod TokenLemmas

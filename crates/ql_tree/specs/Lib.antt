@@ -1,0 +1,17 @@
+pub mod Calls
+pub mod Children
+pub mod Clauses
+pub mod Durations
+pub mod Enforced
+pub mod Operators
+pub mod Patterns
+pub mod Printed
+pub mod Reserved
+pub mod Selecting
+pub mod Shapes
+pub mod Spells
+pub mod Strings
+pub mod Tokens
+pub mod Typed
+pub mod Untyped
+pub mod Words
