@@ -1,5 +1,5 @@
 -- The lines of a source: each ends with a newline or with the source's end.
-use Rattle.std.specs.Prelude.{ℕ, ◌≡◌, ◌≢◌, ◌+◌, ◌-◌, ◌<◌, ◌≤◌, ◌==◌, Bool, true, false, List, [], ◌∷◌, ◌++◌, map, length, take, Result, Ok, Err, nat_lt, if◌then◌else◌}
+use Rattle.std.specs.Prelude.{ℕ, ◌≡◌, ◌≢◌, ◌+◌, ◌-◌, ◌<◌, ◌≤◌, ◌==◌, Bool, true, false, List, [], ◌∷◌, map, length, take, Result, Ok, Err, nat_lt, if◌then◌else◌}
 use Rattle.op_base.specs.declared.memory.NoMemory.{NoMemory}
 use Rattle.op_edges.specs.declared.lines.Line.{Line}
 use Rattle.op_edges.specs.declared.lines.Line.TheVariants.{Whole, Long, End, Fault, Limit}

@@ -1,6 +1,9 @@
-ghost use Rattle.std.specs.Prelude.{◌≡◌, ◌+◌, ◌<◌, ◌≤◌, ◌++◌, [], true, length, Ok, IfOk};
+ghost use Rattle.std.specs.Prelude.{◌≡◌, ◌+◌, ◌<◌, ◌≤◌, ◌++◌, [], true, length, Ok, IfOk, OnOk};
 ghost use Rattle.op_edges.specs.Causes.{Rose};
 ghost use Rattle.op_edges.specs.Told.{Told};
+ghost use Rattle.op_edges.specs.Lines as spec;
+ghost use Rattle.op_edges.specs.Lines.{most_bytes, given, goes_on, count_of, Says, IsWithin, IsFine};
+ghost use Rattle.op_edges.specs.Steps.{gone, AnswerCounts};
 
 use crate::held::Held;
 use crate::source::Source;
@@ -43,8 +46,6 @@ impl Model for LineReader {
 }
 
 impl LineReader {
-    ghost use Rattle.op_edges.specs.Lines.{most_bytes, given, goes_on, count_of, Says, IsWithin, IsFine};
-
     /// A reader that took nothing yet.
     pub fn new(alloc: Global) -> Result<LineReader, NoMemory>
         ensures { IfOk result (λ reader. reader ≡ record { held = []; came = 0; line = 0; going = true }) }
@@ -64,6 +65,8 @@ impl LineReader {
         requires { self.old.going ≡ true }
         ensures says { Told (S.left source.old) (S.left source.new) (λ before after. IfOk result
             (λ line. Says line (given self.old) (self.old.held ++ before) (self.new.held ++ after))) }
+        ensures sum { Told (S.left source.old) (S.left source.new) (λ before after. OnOk result
+            (self.new.came + length after ≡ self.old.came + length before)) }
         ensures within { IfOk result (λ line. IsWithin line self.new) }
         ensures limit { result ≡ Ok Line.Limit → most_bytes < self.new.came }
         ensures fine { IfOk result IsFine }
@@ -93,10 +96,6 @@ impl LineReader {
     }
 }
 
-ghost use Rattle.op_edges.specs.Lines as spec;
-ghost use Rattle.op_edges.specs.Lines.{Says};
-ghost use Rattle.op_edges.specs.Steps.{gone, AnswerCounts};
-
 fn is_line(line: &Line) -> bool
     ensures { result ≡ spec.is_line line.now }
 {
@@ -110,6 +109,8 @@ fn is_line(line: &Line) -> bool
 fn next_line<S: Source>(alloc: Global, held: &mut Held, source: &mut S) -> Result<Line, NoMemory>
     ensures says { Told (S.left source.old) (S.left source.new) (λ before after. IfOk result
         (λ line. Says line (gone held.old) (held.old.bytes ++ before) (held.new.bytes ++ after))) }
+    ensures sum { Told (S.left source.old) (S.left source.new) (λ before after. OnOk result
+        (held.new.came + length after ≡ held.old.came + length before)) }
     ensures counts { IfOk result (λ line. AnswerCounts 0 line held.old held.new) }
     ensures later { S.faults source.old ≤ S.faults source.new }
     ensures fault { result ≡ Ok Line.Fault → Rose (S.faults source.old) (S.faults source.new) }

@@ -136,7 +136,7 @@ impl<R: Files + AllocGlobal + Clone + Drop> Folder for DirFolder<R> {
 
     fn list(&mut self, alloc: Global, dir: &str) -> Result<List<Text>, FolderError>
         ensures sorted { IfOk result (λ names. IsSorted (slice_cmp nat_cmp) names) }
-        ensures most { IfOk result (λ names. length names ≤ 1_000_000) }
+        ensures most { IfOk result (λ names. length names ≤ MOST_NAMES) }
         ensures later { self.old.faults ≤ self.new.faults }
         ensures counted { self.new.faults < 2 ^ 64 }
         ensures failed { IsErrOf result FolderError.Failed → Rose self.old.faults self.new.faults }
@@ -184,7 +184,7 @@ fn list_path<R: Files + AllocGlobal + Clone + Drop>(
     dir: &str,
 ) -> Result<List<Text>, FolderError>
     ensures sorted { IfOk result (λ names. IsSorted (slice_cmp nat_cmp) names) }
-    ensures most { IfOk result (λ names. length names ≤ 1_000_000) }
+    ensures most { IfOk result (λ names. length names ≤ MOST_NAMES) }
 {
     let entries = match fs::read_dir(system, dir) {
         Ok(entries) => entries,
@@ -203,7 +203,7 @@ fn add_name<R: Files + Drop>(
     names: &mut Vec<Text>,
     entry: io::Result<DirEntry<R>>,
 ) -> Result<(), FolderError>
-    ensures { OnOk result (vec_len names.new ≤ 1_000_000) }
+    ensures { OnOk result (vec_len names.new ≤ MOST_NAMES) }
 {
     let entry = match entry {
         Ok(entry) => entry,

@@ -1,4 +1,4 @@
-ghost use Rattle.std.specs.Prelude.{◌≡◌, ◌+◌, ◌-◌, ◌<◌, ◌≤◌, ℕ, List, [], ◌∷◌, ◌++◌, true, length, take, drop, Ok, IfOk};
+ghost use Rattle.std.specs.Prelude.{◌≡◌, ◌+◌, ◌-◌, ◌<◌, ◌≤◌, ℕ, List, [], ◌∷◌, ◌++◌, true, length, take, drop, Ok, IfOk, OnOk};
 ghost use Rattle.op_edges.specs.Causes.{Rose};
 ghost use Rattle.op_edges.specs.Told.{Told};
 ghost use Rattle.op_edges.specs.Lines.{newline, most_bytes, shown_as, is_line, IsClean, IsFine};
@@ -40,6 +40,8 @@ pub fn take_step<S: Source>(
     requires { IsBegun begun.passed begun.clean held.old }
     ensures says { Told (S.left source.old) (S.left source.new) (λ before after. IfOk result
         (λ step. StepSays begun.passed (gone held.old) step (held.old.bytes ++ before) (held.new.bytes ++ after))) }
+    ensures sum { Told (S.left source.old) (S.left source.new) (λ before after. OnOk result
+        (held.new.came + length after ≡ held.old.came + length before)) }
     ensures counts { IfOk result (λ step. StepCounts begun.passed step held.old held.new) }
     ensures later { S.faults source.old ≤ S.faults source.new }
     ensures failed { result ≡ Ok (Step.Gives Line.Fault) → Rose (S.faults source.old) (S.faults source.new) }
@@ -67,6 +69,7 @@ fn cut(alloc: Global, held: &mut Held, passed: usize, place: usize) -> Result<St
     ensures says { (left : List ℕ) → IfOk result (λ step. StepSays passed (gone held.old) step
         (held.old.bytes ++ left) (held.new.bytes ++ left)) }
     ensures counts { IfOk result (λ step. StepCounts passed step held.old held.new) }
+    ensures came { held.new.came ≡ held.old.came }
     ensures answer { ¬ (result ≡ Ok (Step.Gives Line.Fault)) }
 {
     let came = held.came();
@@ -93,6 +96,8 @@ fn go_on<S: Source>(
     requires passed { passed + length held.old.bytes ≤ held.old.came }
     ensures says { Told (S.left source.old) (S.left source.new) (λ before after. IfOk result
         (λ step. StepSays passed (gone held.old) step (held.old.bytes ++ before) (held.new.bytes ++ after))) }
+    ensures sum { Told (S.left source.old) (S.left source.new) (λ before after. OnOk result
+        (held.new.came + length after ≡ held.old.came + length before)) }
     ensures counts { IfOk result (λ step. StepCounts passed step held.old held.new) }
     ensures later { S.faults source.old ≤ S.faults source.new }
     ensures failed { result ≡ Ok (Step.Gives Line.Fault) → Rose (S.faults source.old) (S.faults source.new) }
@@ -114,6 +119,7 @@ fn last(alloc: Global, held: &mut Held, passed: usize) -> Result<Step, NoMemory>
     ensures says { IfOk result (λ step. StepSays passed (gone held.old) step held.old.bytes held.new.bytes) }
     ensures nothing { IfOk result (λ _. held.new.bytes ≡ []) }
     ensures counts { IfOk result (λ step. StepCounts passed step held.old held.new) }
+    ensures came { held.new.came ≡ held.old.came }
     ensures answer { ¬ (result ≡ Ok (Step.Gives Line.Fault)) }
 {
     let size = held.bytes().len();
