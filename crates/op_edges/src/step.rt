@@ -72,8 +72,7 @@ fn cut(alloc: Global, held: &mut Held, passed: usize, place: usize) -> Result<St
     ensures came { held.new.came ≡ held.old.came }
     ensures answer { ¬ (result ≡ Ok (Step.Gives Line.Fault)) }
 {
-    let came = held.came();
-    prove!(came <= MOST_BYTES + 1);
+    let _came = held.came();
     match line_of(alloc, &held.bytes()[..place], passed + place) {
         Err(NoMemory) => Err(NoMemory),
         Ok(line) => {
