@@ -49,6 +49,10 @@ pub record Reading : Type 0 where
   pub line : ℕ
   pub going : Bool
 
+-- nothing came yet
+abbrev pub new_reading : Reading
+new_reading = record { held = []; came = 0; line = 0; going = true }
+
 -- how many of the bytes that came were given in lines
 abbrev pub given : Reading → ℕ
 given reading = reading.came - length reading.held

@@ -8,7 +8,7 @@ use op_base::NoMemory;
 use std::alloc::Global;
 use std::marker::Model;
 
-/// The most bytes that a reader takes from a source, but for the one that shows that there are more.
+/// The most bytes that a reader takes from a source, but for one that shows that there are more.
 pub const MOST_BYTES: usize = 268_435_456;
 
 /// How many bytes are read at once.
@@ -83,11 +83,13 @@ impl Held {
         ensures told { Told (S.left source.old) (S.left source.new)
             (λ before after. OnOk result (self.old.bytes ++ before ≡ self.new.bytes ++ after)) }
         ensures sum { Told (S.left source.old) (S.left source.new)
-            (λ before after. OnOk result (self.new.came + length after ≡ self.old.came + length before)) }
+            (λ before after. OnOk result
+            (self.new.came + length after ≡ self.old.came + length before)) }
         ensures nothing { Told (S.left source.old) (S.left source.new)
             (λ before after. result ≡ Ok Got.Nothing → after ≡ []) }
         ensures front { take (length self.old.bytes) self.new.bytes ≡ self.old.bytes }
-        ensures count { self.new.came + length self.old.bytes ≡ self.old.came + length self.new.bytes }
+        ensures count { self.new.came + length self.old.bytes
+            ≡ self.old.came + length self.new.bytes }
         ensures more { result ≡ Ok Got.More → length self.old.bytes < length self.new.bytes }
         ensures same { result ≢ Ok Got.More → self.new ≡ self.old }
         ensures later { S.faults source.old ≤ S.faults source.new }
@@ -122,7 +124,8 @@ fn read_room<S: Source>(source: &mut S, buffer: &mut Vec<u8>, room: usize) -> Re
     ensures told { Told (S.left source.old) (S.left source.new)
         (λ before after. OnOk result (buffer.old.items ++ before ≡ buffer.new.items ++ after)) }
     ensures sum { Told (S.left source.old) (S.left source.new)
-        (λ before after. OnOk result (vec_len buffer.new + length after ≡ vec_len buffer.old + length before)) }
+        (λ before after. OnOk result
+        (vec_len buffer.new + length after ≡ vec_len buffer.old + length before)) }
     ensures nothing { Told (S.left source.old) (S.left source.new)
         (λ before after. result ≡ Ok Got.Nothing → after ≡ []) }
     ensures front { take (vec_len buffer.old) buffer.new.items ≡ buffer.old.items }
@@ -146,7 +149,8 @@ fn read_into<S: Source>(
     ensures told { Told (S.left source.old) (S.left source.new)
         (λ before after. OnOk result (buffer.old.items ++ before ≡ buffer.new.items ++ after)) }
     ensures sum { Told (S.left source.old) (S.left source.new)
-        (λ before after. OnOk result (vec_len buffer.new + length after ≡ vec_len buffer.old + length before)) }
+        (λ before after. OnOk result
+        (vec_len buffer.new + length after ≡ vec_len buffer.old + length before)) }
     ensures nothing { Told (S.left source.old) (S.left source.new)
         (λ before after. result ≡ Ok Got.Nothing → after ≡ []) }
     ensures front { take (vec_len buffer.old) buffer.new.items ≡ buffer.old.items }

@@ -1,8 +1,8 @@
-ghost use Rattle.std.specs.Prelude.{◌≡◌, ◌+◌, ◌<◌, ◌≤◌, ◌++◌, [], true, length, Ok, IfOk, OnOk};
+ghost use Rattle.std.specs.Prelude.{◌≡◌, ◌+◌, ◌<◌, ◌≤◌, ◌++◌, true, length, Ok, IfOk, OnOk};
 ghost use Rattle.op_edges.specs.Causes.{Rose};
 ghost use Rattle.op_edges.specs.Told.{Told};
 ghost use Rattle.op_edges.specs.Lines as spec;
-ghost use Rattle.op_edges.specs.Lines.{most_bytes, given, goes_on, count_of, Says, IsWithin, IsFine};
+ghost use Rattle.op_edges.specs.Lines.{most_bytes, new_reading, given, goes_on, count_of, Says, IsWithin, IsFine};
 ghost use Rattle.op_edges.specs.Steps.{gone, AnswerCounts};
 
 use crate::held::Held;
@@ -40,7 +40,12 @@ impl Model for LineReader {
 
     ghost Value = { Reading };
 
-    ghost view = { λ it. record { held = it.held.bytes; came = it.held.came; line = it.line; going = it.going } };
+    ghost view = { λ it. record {
+      held = it.held.bytes;
+      came = it.held.came;
+      line = it.line;
+      going = it.going;
+    } };
 
     ghost invariant = { λ it. it.going ≡ true → it.line + length it.held.bytes ≤ it.held.came };
 }
@@ -48,7 +53,7 @@ impl Model for LineReader {
 impl LineReader {
     /// A reader that took nothing yet.
     pub fn new(alloc: Global) -> Result<LineReader, NoMemory>
-        ensures { IfOk result (λ reader. reader ≡ record { held = []; came = 0; line = 0; going = true }) }
+        ensures { IfOk result (λ reader. reader ≡ new_reading) }
     {
         Ok(LineReader {
             alloc,
@@ -58,13 +63,14 @@ impl LineReader {
         })
     }
 
-    /// The next line of the source, once its newline or the end came, or why there is none. After
-    /// any answer but a line it isn't called again. After `NoMemory` the source may have given bytes
-    /// that are lost.
+    /// The next line of the source, once its newline or the end came, or why there is none. It isn't
+    /// called again after another answer than a line. After `NoMemory` the source may have given
+    /// bytes that are lost.
     pub fn next<S: Source>(&mut self, source: &mut S) -> Result<Line, NoMemory>
         requires { self.old.going ≡ true }
         ensures says { Told (S.left source.old) (S.left source.new) (λ before after. IfOk result
-            (λ line. Says line (given self.old) (self.old.held ++ before) (self.new.held ++ after))) }
+            (λ line. Says line (given self.old)
+            (self.old.held ++ before) (self.new.held ++ after))) }
         ensures sum { Told (S.left source.old) (S.left source.new) (λ before after. OnOk result
             (self.new.came + length after ≡ self.old.came + length before)) }
         ensures within { IfOk result (λ line. IsWithin line self.new) }

@@ -172,8 +172,8 @@ fn folders_in_memory_list_and_read(rt: HostRuntime) -> Result<(), Fail> {
     Ok(())
 }
 
-/// For each line `0` where it is empty, `L` where it is long and `1` else; then `.` for the end, `!`
-/// for a fault or `^` for the limit.
+/// For each line `0` where it is empty, `L` where it is long and `1` else; then `.` for the end,
+/// `!` for a fault or `^` for the limit.
 fn shapes<S: Source>(alloc: Global, source: &mut S) -> Result<Text, NoMemory> {
     let mut reader = LineReader::new(alloc)?;
     let mut text = Text::new(alloc);
