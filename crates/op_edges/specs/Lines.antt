@@ -1,5 +1,5 @@
 -- The lines of a source: each ends with a newline or with the source's end.
-use Rattle.std.specs.Prelude.{ℕ, ◌≡◌, ◌≢◌, ◌+◌, ◌-◌, ◌<◌, ◌≤◌, ◌==◌, Bool, true, false, List, [], ◌∷◌, ◌++◌, map, length, take, Result, Ok, Err, nat_lt, if◌then◌else◌}
+use Rattle.std.specs.Prelude.{ℕ, ◌≡◌, ◌≢◌, ◌+◌, ◌-◌, ◌<◌, ◌≤◌, ◌==◌, Bool, true, false, List, [], ◌∷◌, map, length, take, Result, Ok, Err, nat_lt, if◌then◌else◌}
 use Rattle.op_base.specs.declared.memory.NoMemory.{NoMemory}
 use Rattle.op_edges.specs.declared.lines.Line.{Line}
 use Rattle.op_edges.specs.declared.lines.Line.TheVariants.{Whole, Long, End, Fault, Limit}
@@ -48,6 +48,10 @@ pub record Reading : Type 0 where
   pub came : ℕ
   pub line : ℕ
   pub going : Bool
+
+-- nothing came yet
+abbrev pub new_reading : Reading
+new_reading = record { held = []; came = 0; line = 0; going = true }
 
 -- how many of the bytes that came were given in lines
 abbrev pub given : Reading → ℕ

@@ -18,12 +18,14 @@ gone holding = holding.came - length holding.bytes
 
 -- a front without a newline was dropped, and the count of dropped bytes went from p to q
 abbrev pub MovesOn : ℕ → ℕ → List ℕ → List ℕ → Type 0
-MovesOn p q before after = (front : List ℕ) × IsClean front × (before ≡ front ++ after) × (p + length front ≡ q)
+MovesOn p q before after =
+    (front : List ℕ) × IsClean front × (before ≡ front ++ after) × (p + length front ≡ q)
 
 -- the rest of a line with p dropped bytes stands in front, with its newline or at the end
 abbrev pub LineEnds : ℕ → Line → List ℕ → List ℕ → Type 0
 LineEnds p line before after =
-    ((rest : List ℕ) × IsClean rest × (before ≡ rest ++ newline ∷ after) × (line ≡ shown_as (p + length rest) rest))
+    ((rest : List ℕ) × IsClean rest × (before ≡ rest ++ newline ∷ after)
+    × (line ≡ shown_as (p + length rest) rest))
     ⊎ (IsClean before × (after ≡ []) × (0 < p + length before) × (line ≡ shown_as (p + length before) before))
 
 -- what an answer says where p bytes of the line were dropped and `away` bytes are no longer held
@@ -45,11 +47,13 @@ IsPassed p = (p ≡ 0) ⊎ (most_line < p)
 
 -- what is known to have no newline is at the front of what is held
 abbrev pub IsBegun : ℕ → ℕ → Holding → Type 0
-IsBegun p clean holding = IsPassed p × (clean ≤ length holding.bytes) × IsClean (take clean holding.bytes) × (p ≤ gone holding)
+IsBegun p clean holding =
+    IsPassed p × (clean ≤ length holding.bytes) × IsClean (take clean holding.bytes) × (p ≤ gone holding)
 
 -- what an answer says of the counts, where p bytes of the line were dropped before
 abbrev pub AnswerCounts : ℕ → Line → Holding → Holding → Type 0
-AnswerCounts p (Whole bytes) before after = IsFine (Whole bytes) × (gone after ≤ most_bytes) × (gone before < gone after + p)
+AnswerCounts p (Whole bytes) before after =
+    IsFine (Whole bytes) × (gone after ≤ most_bytes) × (gone before < gone after + p)
 AnswerCounts p Long before after = (gone after ≤ most_bytes) × (gone before < gone after + p)
 AnswerCounts p End before after = gone after ≤ most_bytes
 AnswerCounts p Fault before after = Unit {0}
@@ -58,5 +62,5 @@ AnswerCounts p Limit before after = most_bytes < after.came
 -- what a step says of the counts
 abbrev pub StepCounts : ℕ → Step → Holding → Holding → Type 0
 StepCounts p (Gives line) before after = AnswerCounts p line before after
-StepCounts p (Goes begun) before after = IsBegun begun.passed begun.clean after × (gone after + p ≡ gone before + begun.passed)
-    × (before.came ≤ most_bytes) × (before.came < after.came)
+StepCounts p (Goes begun) before after =
+    IsBegun begun.passed begun.clean after × (gone after + p ≡ gone before + begun.passed) × (before.came ≤ most_bytes) × (before.came < after.came)

@@ -60,7 +60,8 @@ pub(crate) fn read_in(
     name: &str,
     room: usize,
 ) -> Result<FileRead, NoMemory>
-    ensures read { IfOk result (λ read. read ≡ read_within room (file_of folders.now dir.now name.now)) }
+    ensures read { IfOk result
+        (λ read. read ≡ read_within room (file_of folders.now dir.now name.now)) }
     ensures bound { IfOk result (FitsIn room) }
 {
     match file_in(folders, dir, name) {

@@ -68,7 +68,8 @@ pub trait Folder {
         ensures content { content self.new ≡ content self.old }
         ensures later { faults self.old ≤ faults self.new }
         ensures counted { faults self.new < 2 ^ 64 }
-        ensures failed { IsErrOf result FolderError.Failed → Rose (faults self.old) (faults self.new) };
+        ensures failed { IsErrOf result FolderError.Failed
+            → Rose (faults self.old) (faults self.new) };
 
     /// The bytes of a file, or `Longer` where it has more than `room` of them. A file that isn't
     /// there counts as empty.
@@ -84,5 +85,6 @@ pub trait Folder {
         ensures content { content self.new ≡ content self.old }
         ensures later { faults self.old ≤ faults self.new }
         ensures counted { faults self.new < 2 ^ 64 }
-        ensures failed { IsErrOf result FolderError.Failed → Rose (faults self.old) (faults self.new) };
+        ensures failed { IsErrOf result FolderError.Failed
+            → Rose (faults self.old) (faults self.new) };
 }

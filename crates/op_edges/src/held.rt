@@ -8,7 +8,7 @@ use op_base::NoMemory;
 use std::alloc::Global;
 use std::marker::Model;
 
-/// The most bytes that a reader takes from a source, but for the one that shows that there are more.
+/// The most bytes that a reader takes from a source, but for one that shows that there are more.
 pub const MOST_BYTES: usize = 268_435_456;
 
 /// How many bytes are read at once.
@@ -32,6 +32,7 @@ pub struct Held {
 
 impl Model for Held {
     ghost use Rattle.std.specs.Prelude.{◌≤◌, ◌+◌, length, drop, vec_len};
+    ghost use Rattle.op_edges.specs.Lines.{most_bytes};
     ghost use Rattle.op_edges.specs.Steps.{Holding};
 
     ghost Value = { Holding };
@@ -39,7 +40,7 @@ impl Model for Held {
     ghost view = { λ it. record { bytes = drop it.at it.buffer.items; came = it.came } };
 
     ghost invariant = { λ it. (it.at ≤ vec_len it.buffer) × (vec_len it.buffer ≤ it.came + it.at)
-        × (it.came ≤ 268_435_457) };
+        × (it.came ≤ most_bytes + 1) };
 }
 
 impl Held {
@@ -81,10 +82,14 @@ impl Held {
         requires { self.old.came ≤ most_bytes }
         ensures told { Told (S.left source.old) (S.left source.new)
             (λ before after. OnOk result (self.old.bytes ++ before ≡ self.new.bytes ++ after)) }
+        ensures sum { Told (S.left source.old) (S.left source.new)
+            (λ before after. OnOk result
+            (self.new.came + length after ≡ self.old.came + length before)) }
         ensures nothing { Told (S.left source.old) (S.left source.new)
             (λ before after. result ≡ Ok Got.Nothing → after ≡ []) }
         ensures front { take (length self.old.bytes) self.new.bytes ≡ self.old.bytes }
-        ensures count { self.new.came + length self.old.bytes ≡ self.old.came + length self.new.bytes }
+        ensures count { self.new.came + length self.old.bytes
+            ≡ self.old.came + length self.new.bytes }
         ensures more { result ≡ Ok Got.More → length self.old.bytes < length self.new.bytes }
         ensures same { result ≢ Ok Got.More → self.new ≡ self.old }
         ensures later { S.faults source.old ≤ S.faults source.new }
@@ -115,9 +120,12 @@ fn drop_front(buffer: &mut Vec<u8>, count: usize)
 /// Reads at most `room` bytes behind those of the buffer.
 fn read_room<S: Source>(source: &mut S, buffer: &mut Vec<u8>, room: usize) -> Result<Got, NoMemory>
     requires some { 0 < room }
-    requires most { room ≤ 8192 }
+    requires most { room ≤ CHUNK }
     ensures told { Told (S.left source.old) (S.left source.new)
         (λ before after. OnOk result (buffer.old.items ++ before ≡ buffer.new.items ++ after)) }
+    ensures sum { Told (S.left source.old) (S.left source.new)
+        (λ before after. OnOk result
+        (vec_len buffer.new + length after ≡ vec_len buffer.old + length before)) }
     ensures nothing { Told (S.left source.old) (S.left source.new)
         (λ before after. result ≡ Ok Got.Nothing → after ≡ []) }
     ensures front { take (vec_len buffer.old) buffer.new.items ≡ buffer.old.items }
@@ -140,6 +148,9 @@ fn read_into<S: Source>(
     requires { 0 < length chunk.old }
     ensures told { Told (S.left source.old) (S.left source.new)
         (λ before after. OnOk result (buffer.old.items ++ before ≡ buffer.new.items ++ after)) }
+    ensures sum { Told (S.left source.old) (S.left source.new)
+        (λ before after. OnOk result
+        (vec_len buffer.new + length after ≡ vec_len buffer.old + length before)) }
     ensures nothing { Told (S.left source.old) (S.left source.new)
         (λ before after. result ≡ Ok Got.Nothing → after ≡ []) }
     ensures front { take (vec_len buffer.old) buffer.new.items ≡ buffer.old.items }

@@ -1,6 +1,9 @@
-ghost use Rattle.std.specs.Prelude.{◌≡◌, ◌+◌, ◌<◌, ◌≤◌, ◌++◌, [], true, length, Ok, IfOk};
+ghost use Rattle.std.specs.Prelude.{◌≡◌, ◌+◌, ◌<◌, ◌≤◌, ◌++◌, true, length, Ok, IfOk, OnOk};
 ghost use Rattle.op_edges.specs.Causes.{Rose};
 ghost use Rattle.op_edges.specs.Told.{Told};
+ghost use Rattle.op_edges.specs.Lines as spec;
+ghost use Rattle.op_edges.specs.Lines.{most_bytes, new_reading, given, goes_on, count_of, Says, IsWithin, IsFine};
+ghost use Rattle.op_edges.specs.Steps.{gone, AnswerCounts};
 
 use crate::held::Held;
 use crate::source::Source;
@@ -37,17 +40,20 @@ impl Model for LineReader {
 
     ghost Value = { Reading };
 
-    ghost view = { λ it. record { held = it.held.bytes; came = it.held.came; line = it.line; going = it.going } };
+    ghost view = { λ it. record {
+      held = it.held.bytes;
+      came = it.held.came;
+      line = it.line;
+      going = it.going;
+    } };
 
     ghost invariant = { λ it. it.going ≡ true → it.line + length it.held.bytes ≤ it.held.came };
 }
 
 impl LineReader {
-    ghost use Rattle.op_edges.specs.Lines.{most_bytes, given, goes_on, count_of, Says, IsWithin, IsFine};
-
     /// A reader that took nothing yet.
     pub fn new(alloc: Global) -> Result<LineReader, NoMemory>
-        ensures { IfOk result (λ reader. reader ≡ record { held = []; came = 0; line = 0; going = true }) }
+        ensures { IfOk result (λ reader. reader ≡ new_reading) }
     {
         Ok(LineReader {
             alloc,
@@ -57,13 +63,16 @@ impl LineReader {
         })
     }
 
-    /// The next line of the source, once its newline or the end came, or why there is none. After
-    /// any answer but a line it isn't called again. After `NoMemory` the source may have given bytes
-    /// that are lost.
+    /// The next line of the source, once its newline or the end came, or why there is none. It isn't
+    /// called again after another answer than a line. After `NoMemory` the source may have given
+    /// bytes that are lost.
     pub fn next<S: Source>(&mut self, source: &mut S) -> Result<Line, NoMemory>
         requires { self.old.going ≡ true }
         ensures says { Told (S.left source.old) (S.left source.new) (λ before after. IfOk result
-            (λ line. Says line (given self.old) (self.old.held ++ before) (self.new.held ++ after))) }
+            (λ line. Says line (given self.old)
+            (self.old.held ++ before) (self.new.held ++ after))) }
+        ensures sum { Told (S.left source.old) (S.left source.new) (λ before after. OnOk result
+            (self.new.came + length after ≡ self.old.came + length before)) }
         ensures within { IfOk result (λ line. IsWithin line self.new) }
         ensures limit { result ≡ Ok Line.Limit → most_bytes < self.new.came }
         ensures fine { IfOk result IsFine }
@@ -93,10 +102,6 @@ impl LineReader {
     }
 }
 
-ghost use Rattle.op_edges.specs.Lines as spec;
-ghost use Rattle.op_edges.specs.Lines.{Says};
-ghost use Rattle.op_edges.specs.Steps.{gone, AnswerCounts};
-
 fn is_line(line: &Line) -> bool
     ensures { result ≡ spec.is_line line.now }
 {
@@ -110,6 +115,8 @@ fn is_line(line: &Line) -> bool
 fn next_line<S: Source>(alloc: Global, held: &mut Held, source: &mut S) -> Result<Line, NoMemory>
     ensures says { Told (S.left source.old) (S.left source.new) (λ before after. IfOk result
         (λ line. Says line (gone held.old) (held.old.bytes ++ before) (held.new.bytes ++ after))) }
+    ensures sum { Told (S.left source.old) (S.left source.new) (λ before after. OnOk result
+        (held.new.came + length after ≡ held.old.came + length before)) }
     ensures counts { IfOk result (λ line. AnswerCounts 0 line held.old held.new) }
     ensures later { S.faults source.old ≤ S.faults source.new }
     ensures fault { result ≡ Ok Line.Fault → Rose (S.faults source.old) (S.faults source.new) }

@@ -62,7 +62,8 @@ impl Source for MemSource {
         ensures counted { self.new.plan.faults < 2 ^ 64 }
         ensures failed { OnErr result (Rose self.old.plan.faults self.new.plan.faults) }
         ensures fails { is_err result ≡ fails_next self.old.plan }
-        ensures count { IfOk result (λ count. count ≡ min (length into.new) (length self.old.left)) }
+        ensures count { IfOk result
+            (λ count. count ≡ min (length into.new) (length self.old.left)) }
         ensures plan { self.new.plan ≡ after_call (is_err result) self.old.plan }
     {
         let fails = self.plan.fails_next();
@@ -113,7 +114,8 @@ impl MemSink {
     /// An empty sink with room for `room` bytes; `fails` lists the numbers of the writes that fail,
     /// counted from 1.
     pub fn new(alloc: Global, room: usize, fails: List<u64>) -> Result<MemSink, NoMemory>
-        ensures { IfOk result (λ sink. sink ≡ record { taken = []; room = room; plan = fresh_plan fails }) }
+        ensures { IfOk result
+            (λ sink. sink ≡ record { taken = []; room = room; plan = fresh_plan fails }) }
     {
         Ok(MemSink {
             taken: Vec::with_capacity(alloc, room)?,
@@ -144,7 +146,8 @@ impl Sink for MemSink {
         ensures counted { self.new.plan.faults < 2 ^ 64 }
         ensures failed { OnErr result (Rose self.old.plan.faults self.new.plan.faults) }
         ensures fails { is_err result ≡ refuses self.old piece.now }
-        ensures count { IfOk result (λ count. count ≡ min (length piece.now) (self.old.room - length self.old.taken)) }
+        ensures count { IfOk result
+            (λ count. count ≡ min (length piece.now) (self.old.room - length self.old.taken)) }
         ensures room { self.new.room ≡ self.old.room }
         ensures plan { self.new.plan ≡ after_call (is_err result) self.old.plan }
     {
@@ -204,7 +207,8 @@ impl MemFolder {
 
     /// Adds an empty folder where there is none of that name.
     pub fn make(&mut self, dir: &str) -> Result<(), NoMemory>
-        ensures ok { OnOk result (self.new ≡ record self.old { content = with_folder self.old.content dir.now }) }
+        ensures ok { OnOk result
+            (self.new ≡ record self.old { content = with_folder self.old.content dir.now }) }
         ensures err { OnErr result (self.new ≡ self.old) }
     {
         make_in(self.alloc, &mut self.folders, dir)
@@ -212,7 +216,8 @@ impl MemFolder {
 
     /// Sets that one file, in a folder that it adds where there is none.
     pub fn put(&mut self, dir: &str, name: &str, bytes: List<u8>) -> Result<(), NoMemory>
-        ensures ok { OnOk result (self.new ≡ record self.old { content = with_file self.old.content dir.now name.now bytes }) }
+        ensures ok { OnOk result (self.new
+            ≡ record self.old { content = with_file self.old.content dir.now name.now bytes }) }
         ensures err { OnErr result (self.new ≡ self.old) }
     {
         put_in(self.alloc, &mut self.folders, dir, name, bytes)
@@ -231,7 +236,8 @@ impl Folder for MemFolder {
         ensures content { self.new.content ≡ self.old.content }
         ensures later { self.old.plan.faults ≤ self.new.plan.faults }
         ensures counted { self.new.plan.faults < 2 ^ 64 }
-        ensures failed { IsErrOf result FolderError.Failed → Rose self.old.plan.faults self.new.plan.faults }
+        ensures failed { IsErrOf result FolderError.Failed
+            → Rose self.old.plan.faults self.new.plan.faults }
         ensures fails { is_failed result ≡ refuses_list self.old dir.now }
         ensures plan { self.new.plan ≡ after_call (is_failed result) self.old.plan }
     {
@@ -258,7 +264,8 @@ impl Folder for MemFolder {
         ensures content { self.new.content ≡ self.old.content }
         ensures later { self.old.plan.faults ≤ self.new.plan.faults }
         ensures counted { self.new.plan.faults < 2 ^ 64 }
-        ensures failed { IsErrOf result FolderError.Failed → Rose self.old.plan.faults self.new.plan.faults }
+        ensures failed { IsErrOf result FolderError.Failed
+            → Rose self.old.plan.faults self.new.plan.faults }
         ensures fails { is_failed result ≡ refuses_file self.old dir.now name.now }
         ensures plan { self.new.plan ≡ after_call (is_failed result) self.old.plan }
     {

@@ -19,6 +19,7 @@ use std::{fs, io};
 /// The most names that a listing of a real folder may have.
 const MOST_NAMES: usize = 1_000_000;
 
+/// How many bytes of a file are read at once.
 const CHUNK: usize = 8192;
 
 /// A source over a reader, as standard input. It tells no bytes and counts each failure.
@@ -29,6 +30,7 @@ pub struct StdSource<R: Read> {
 }
 
 impl<R: Read> StdSource<R> {
+    /// A source over `input`, which didn't fail yet.
     pub fn new(input: R) -> StdSource<R>
         ensures { result ≡ record { input = input; faults = 0 } }
     {
@@ -49,7 +51,8 @@ impl<R: Read> Source for StdSource<R> {
         ensures counted { self.new.faults < 2 ^ 64 }
         ensures failed { OnErr result (Rose self.old.faults self.new.faults) }
         ensures count { self.new.faults ≡ count_after (is_err result) self.old.faults }
-        ensures input { ReadConsumes (R.remaining self.old.input) (R.remaining self.new.input) result into.new }
+        ensures input { ReadConsumes (R.remaining self.old.input) (R.remaining self.new.input)
+            result into.new }
     {
         let faults = self.faults;
         match self.input.read(into) {
@@ -71,6 +74,7 @@ pub struct StdSink<W: Write> {
 }
 
 impl<W: Write> StdSink<W> {
+    /// A sink over `output`, which didn't fail yet.
     pub fn new(output: W) -> StdSink<W>
         ensures { result ≡ record { output = output; faults = 0 } }
     {
@@ -91,7 +95,8 @@ impl<W: Write> Sink for StdSink<W> {
         ensures counted { self.new.faults < 2 ^ 64 }
         ensures failed { OnErr result (Rose self.old.faults self.new.faults) }
         ensures count { self.new.faults ≡ count_after (is_err result) self.old.faults }
-        ensures output { WriteAppends (W.contents self.old.output) (W.contents self.new.output) result piece.now }
+        ensures output { WriteAppends (W.contents self.old.output) (W.contents self.new.output)
+            result piece.now }
     {
         let faults = self.faults;
         match self.output.write(piece) {
@@ -120,6 +125,7 @@ pub struct DirFolder<R: Files + AllocGlobal + Clone + Drop> {
 }
 
 impl<R: Files + AllocGlobal + Clone + Drop> DirFolder<R> {
+    /// The folders of `system`, which didn't fail yet.
     pub fn new(system: R) -> DirFolder<R>
         ensures { result ≡ record { system = system; faults = 0 } }
     {
@@ -136,7 +142,7 @@ impl<R: Files + AllocGlobal + Clone + Drop> Folder for DirFolder<R> {
 
     fn list(&mut self, alloc: Global, dir: &str) -> Result<List<Text>, FolderError>
         ensures sorted { IfOk result (λ names. IsSorted (slice_cmp nat_cmp) names) }
-        ensures most { IfOk result (λ names. length names ≤ 1_000_000) }
+        ensures most { IfOk result (λ names. length names ≤ MOST_NAMES) }
         ensures later { self.old.faults ≤ self.new.faults }
         ensures counted { self.new.faults < 2 ^ 64 }
         ensures failed { IsErrOf result FolderError.Failed → Rose self.old.faults self.new.faults }
@@ -184,7 +190,7 @@ fn list_path<R: Files + AllocGlobal + Clone + Drop>(
     dir: &str,
 ) -> Result<List<Text>, FolderError>
     ensures sorted { IfOk result (λ names. IsSorted (slice_cmp nat_cmp) names) }
-    ensures most { IfOk result (λ names. length names ≤ 1_000_000) }
+    ensures most { IfOk result (λ names. length names ≤ MOST_NAMES) }
 {
     let entries = match fs::read_dir(system, dir) {
         Ok(entries) => entries,
@@ -203,7 +209,7 @@ fn add_name<R: Files + Drop>(
     names: &mut Vec<Text>,
     entry: io::Result<DirEntry<R>>,
 ) -> Result<(), FolderError>
-    ensures { OnOk result (vec_len names.new ≤ 1_000_000) }
+    ensures { OnOk result (vec_len names.new ≤ MOST_NAMES) }
 {
     let entry = match entry {
         Ok(entry) => entry,

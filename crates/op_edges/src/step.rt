@@ -1,4 +1,4 @@
-ghost use Rattle.std.specs.Prelude.{◌≡◌, ◌+◌, ◌-◌, ◌<◌, ◌≤◌, ℕ, List, [], ◌∷◌, ◌++◌, true, length, take, drop, Ok, IfOk};
+ghost use Rattle.std.specs.Prelude.{◌≡◌, ◌+◌, ◌-◌, ◌<◌, ◌≤◌, ℕ, List, [], ◌∷◌, ◌++◌, true, length, take, drop, Ok, IfOk, OnOk};
 ghost use Rattle.op_edges.specs.Causes.{Rose};
 ghost use Rattle.op_edges.specs.Told.{Told};
 ghost use Rattle.op_edges.specs.Lines.{newline, most_bytes, shown_as, is_line, IsClean, IsFine};
@@ -39,10 +39,14 @@ pub fn take_step<S: Source>(
 ) -> Result<Step, NoMemory>
     requires { IsBegun begun.passed begun.clean held.old }
     ensures says { Told (S.left source.old) (S.left source.new) (λ before after. IfOk result
-        (λ step. StepSays begun.passed (gone held.old) step (held.old.bytes ++ before) (held.new.bytes ++ after))) }
+        (λ step. StepSays begun.passed (gone held.old) step
+        (held.old.bytes ++ before) (held.new.bytes ++ after))) }
+    ensures sum { Told (S.left source.old) (S.left source.new) (λ before after. OnOk result
+        (held.new.came + length after ≡ held.old.came + length before)) }
     ensures counts { IfOk result (λ step. StepCounts begun.passed step held.old held.new) }
     ensures later { S.faults source.old ≤ S.faults source.new }
-    ensures failed { result ≡ Ok (Step.Gives Line.Fault) → Rose (S.faults source.old) (S.faults source.new) }
+    ensures failed { result ≡ Ok (Step.Gives Line.Fault)
+        → Rose (S.faults source.old) (S.faults source.new) }
 {
     let came = held.came();
     let size = held.bytes().len();
@@ -67,10 +71,10 @@ fn cut(alloc: Global, held: &mut Held, passed: usize, place: usize) -> Result<St
     ensures says { (left : List ℕ) → IfOk result (λ step. StepSays passed (gone held.old) step
         (held.old.bytes ++ left) (held.new.bytes ++ left)) }
     ensures counts { IfOk result (λ step. StepCounts passed step held.old held.new) }
+    ensures came { held.new.came ≡ held.old.came }
     ensures answer { ¬ (result ≡ Ok (Step.Gives Line.Fault)) }
 {
-    let came = held.came();
-    prove!(came <= MOST_BYTES + 1);
+    let _came = held.came();
     match line_of(alloc, &held.bytes()[..place], passed + place) {
         Err(NoMemory) => Err(NoMemory),
         Ok(line) => {
@@ -92,10 +96,14 @@ fn go_on<S: Source>(
     requires long { IsPassed passed }
     requires passed { passed + length held.old.bytes ≤ held.old.came }
     ensures says { Told (S.left source.old) (S.left source.new) (λ before after. IfOk result
-        (λ step. StepSays passed (gone held.old) step (held.old.bytes ++ before) (held.new.bytes ++ after))) }
+        (λ step. StepSays passed (gone held.old) step
+        (held.old.bytes ++ before) (held.new.bytes ++ after))) }
+    ensures sum { Told (S.left source.old) (S.left source.new) (λ before after. OnOk result
+        (held.new.came + length after ≡ held.old.came + length before)) }
     ensures counts { IfOk result (λ step. StepCounts passed step held.old held.new) }
     ensures later { S.faults source.old ≤ S.faults source.new }
-    ensures failed { result ≡ Ok (Step.Gives Line.Fault) → Rose (S.faults source.old) (S.faults source.new) }
+    ensures failed { result ≡ Ok (Step.Gives Line.Fault)
+        → Rose (S.faults source.old) (S.faults source.new) }
 {
     let size = held.bytes().len();
     match held.fill(source) {
@@ -111,9 +119,11 @@ fn last(alloc: Global, held: &mut Held, passed: usize) -> Result<Step, NoMemory>
     requires most { held.old.came ≤ most_bytes }
     requires clean { IsClean held.old.bytes }
     requires passed { passed + length held.old.bytes ≤ held.old.came }
-    ensures says { IfOk result (λ step. StepSays passed (gone held.old) step held.old.bytes held.new.bytes) }
+    ensures says { IfOk result
+        (λ step. StepSays passed (gone held.old) step held.old.bytes held.new.bytes) }
     ensures nothing { IfOk result (λ _. held.new.bytes ≡ []) }
     ensures counts { IfOk result (λ step. StepCounts passed step held.old held.new) }
+    ensures came { held.new.came ≡ held.old.came }
     ensures answer { ¬ (result ≡ Ok (Step.Gives Line.Fault)) }
 {
     let size = held.bytes().len();
@@ -169,8 +179,8 @@ fn line_of(alloc: Global, bytes: &[u8], size: usize) -> Result<Line, NoMemory>
     Ok(Line::Whole(List::from_vec(bytes.to_vec(alloc)?)))
 }
 
-/// The place of the first newline of `bytes`, or their number where there is none. The first `clean`
-/// of them are no newlines.
+/// The place of the first newline of `bytes`, or their number where there is none. The first
+/// `clean` of them are no newlines.
 fn newline_from(bytes: &[u8], clean: usize) -> usize
     requires within { clean ≤ length bytes.now }
     requires clean { IsClean (take clean bytes.now) }

@@ -1,8 +1,9 @@
 use super::*;
 use op_base::{List, NoMemory, Text};
 use std::alloc::Global;
-use std::fs;
+use std::process::Abort;
 use std::test::Fail;
+use std::{fs, io};
 
 fn bytes_of(alloc: Global, text: &[u8]) -> Result<List<u8>, NoMemory> {
     Ok(List::from_vec(text.to_vec(alloc)?))
@@ -128,6 +129,22 @@ fn folder_in_memory(alloc: Global) -> Result<MemFolder, NoMemory> {
     Ok(folder)
 }
 
+/// A folder with an empty file `a` and a file `b` of three bytes.
+fn check_folder<F: Folder>(rt: &impl Abort, alloc: Global, folder: &mut F) -> Result<(), NoMemory> {
+    for (dir, names) in [("op_edges_box", "a;b;"), ("op_edges_box/none", "!")] {
+        assert_eq!(rt; listed(alloc, folder, dir)?.as_str(), names, "the names");
+    }
+    for (name, room, read) in [
+        ("b", 3, "xyz"),
+        ("b", 2, "longer"),
+        ("a", 0, "empty"),
+        ("c", 9, "failed"),
+    ] {
+        assert_eq!(rt; read_of(alloc, folder, name, room)?, read, "what is read");
+    }
+    Ok(())
+}
+
 #[test]
 fn folders_in_memory_list_and_read(rt: HostRuntime) -> Result<(), Fail> {
     let alloc = rt.alloc();
@@ -144,18 +161,6 @@ fn folders_in_memory_list_and_read(rt: HostRuntime) -> Result<(), Fail> {
             "names in {dir}"
         );
     }
-    for (name, room, read) in [
-        ("b", 3, "xyz"),
-        ("b", 2, "longer"),
-        ("a", 0, "empty"),
-        ("c", 9, "failed"),
-    ] {
-        assert_eq!(rt;
-            read_of(alloc, &mut folder, name, room)?,
-            read,
-            "room {room} for {name}"
-        );
-    }
     let mut sure = SureFolder::new(alloc);
     sure.put("op_edges_box", "b", bytes_of(alloc, b"xyz")?)?;
     assert_eq!(rt;
@@ -167,8 +172,8 @@ fn folders_in_memory_list_and_read(rt: HostRuntime) -> Result<(), Fail> {
     Ok(())
 }
 
-/// For each line `0` where it is empty, `L` where it is long and `1` else; then `.` for the end, `!`
-/// for a fault or `^` for the limit.
+/// For each line `0` where it is empty, `L` where it is long and `1` else; then `.` for the end,
+/// `!` for a fault or `^` for the limit.
 fn shapes<S: Source>(alloc: Global, source: &mut S) -> Result<Text, NoMemory> {
     let mut reader = LineReader::new(alloc)?;
     let mut text = Text::new(alloc);
@@ -208,7 +213,11 @@ fn lines_come_in_order(rt: HostRuntime) -> Result<(), Fail> {
     let alloc = rt.alloc();
     for (text, shape) in [("", "."), ("\n", "0."), ("a", "1."), ("a\n\nbc", "101.")] {
         let mut source = SureSource::new(bytes_of(alloc, text.as_bytes())?);
-        assert_eq!(rt; shapes(alloc, &mut source)?.as_str(), shape, "at {text}");
+        assert_eq!(rt;
+            shapes(alloc, &mut source)?.as_str(),
+            shape,
+            "lines of a short text"
+        );
     }
     for (size, shape) in [(1_048_576, "11."), (1_048_577, "L1.")] {
         let mut source = two_lines(alloc, size)?;
@@ -232,31 +241,20 @@ fn real_files_are_written_listed_and_read(rt: HostRuntime) -> Result<(), Fail> {
     let alloc = rt.alloc();
     let _ = fs::remove_dir_all(&rt, "op_edges_box");
     fs::create_dir(&rt, "op_edges_box")?;
-    let mut sink = StdSink::new(fs::create(&rt, "op_edges_box/b")?);
-    assert_eq!(rt; put_all(&mut sink, b"xyz"), Ok(()), "written");
     fs::write(&rt, "op_edges_box/a", "")?;
-    let mut source = StdSource::new(fs::open(&rt, "op_edges_box/b")?);
-    assert_eq!(rt; read_four(&mut source), Ok((3, b'x')), "what was written");
+    assert!(rt;
+        written(&rt, "op_edges_box/b")?,
+        "written and read as streams"
+    );
     let mut folder = DirFolder::new(rt.clone()?);
-    for (dir, names) in [("op_edges_box", "a;b;"), ("op_edges_box/none", "!")] {
-        assert_eq!(rt;
-            listed(alloc, &mut folder, dir)?.as_str(),
-            names,
-            "names in {dir}"
-        );
-    }
-    for (name, room, read) in [
-        ("b", 3, "xyz"),
-        ("b", 2, "longer"),
-        ("a", 0, "empty"),
-        ("c", 9, "failed"),
-    ] {
-        assert_eq!(rt;
-            read_of(alloc, &mut folder, name, room)?,
-            read,
-            "room {room} for {name}"
-        );
-    }
+    check_folder(&rt, alloc, &mut folder)?;
     fs::remove_dir_all(&rt, "op_edges_box")?;
     Ok(())
+}
+
+fn written(rt: &HostRuntime, path: &str) -> Result<bool, io::Error> {
+    let mut sink = StdSink::new(fs::create(rt, path)?);
+    let written = put_all(&mut sink, b"xyz");
+    let mut source = StdSource::new(fs::open(rt, path)?);
+    Ok(written.is_ok() && read_four(&mut source) == Ok((3, b'x')))
 }

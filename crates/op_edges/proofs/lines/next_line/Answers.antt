@@ -1,4 +1,4 @@
-use Rattle.std.proofs.Common.{◌≡◌, ◌++◌, List, ℕ, subst, arith}
+use Rattle.std.proofs.Common.{◌≡◌, ◌+◌, ◌++◌, length, subst, arith}
 use Rattle.op_edges.specs.Told.{Told}
 use Rattle.op_edges.specs.Lines.{Says}
 use Rattle.op_edges.specs.Steps.{gone, MovesOn, Ends, StepSays, StepCounts}
@@ -16,7 +16,7 @@ returns-in-Ok-Gives-clause-says g c =
     (λ before after. Ends p c.in-Ok-Gives.line (gone L) (L.bytes ++ before) (c.take_step.new.held.bytes ++ after))
     (λ before after. Says c.in-Ok-Gives.line (gone c.args.held.now) (c.args.held.now.bytes ++ before) (c.take_step.new.held.bytes ++ after))
     (λ x y z moved ends. says_after c.in-Ok-Gives.line p (gone c.args.held.now) (gone L) (c.args.held.now.bytes ++ x) (L.bytes ++ y) (c.take_step.new.held.bytes ++ z)
-    moved c.loop-line.invariant.1.0 c.loop-line.invariant.2 ends)
+    moved c.loop-line.invariant.2.0 c.loop-line.invariant.3 ends)
     c.loop-line.invariant.0
     (let f : Step → Type 0 = λ step. Told (g.S.Source.left c.loop-line.source) (g.S.Source.left c.take_step.new.source)
     (λ before after. StepSays p (gone L) step (L.bytes ++ before) (c.take_step.new.held.bytes ++ after)) in
@@ -36,7 +36,14 @@ loop-line-preserved g c =
           (let f : Step → Type 0 = λ step. Told (g.S.Source.left c.loop-line.source) (g.S.Source.left c.take_step.new.source)
           (λ before after. StepSays p (gone L) step (L.bytes ++ before) (c.take_step.new.held.bytes ++ after)) in
           subst f c.in-Ok-Goes.field-0-is c.in-Ok-Goes.ensures.says),
+      told_then (g.S.Source.left c.args.source.now) (g.S.Source.left c.loop-line.source) (g.S.Source.left c.take_step.new.source)
+          (λ before after. L.came + length after ≡ c.args.held.now.came + length before)
+          (λ before after. c.take_step.new.held.came + length after ≡ L.came + length before)
+          (λ before after. c.take_step.new.held.came + length after ≡ c.args.held.now.came + length before)
+          (λ x y z first second. omega (arith, first, second))
+          c.loop-line.invariant.1
+          c.in-Ok-Goes.ensures.sum,
       counts.0,
-      omega (arith, counts.1, c.loop-line.invariant.2),
-      omega (arith, c.loop-line.invariant.3, c.in-Ok-Goes.ensures.later),
+      omega (arith, counts.1, c.loop-line.invariant.3),
+      omega (arith, c.loop-line.invariant.4, c.in-Ok-Goes.ensures.later),
     )

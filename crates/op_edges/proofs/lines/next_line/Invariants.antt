@@ -8,6 +8,8 @@ abbrev pub invariant-loop-line : goal.invariant-loop-line
 invariant-loop-line g l =
     Told (g.S.Source.left l.initial.source) (g.S.Source.left l.source)
     (λ before after. MovesOn 0 l.begun.passed (l.initial.held.bytes ++ before) (l.held.bytes ++ after))
+    × Told (g.S.Source.left l.initial.source) (g.S.Source.left l.source)
+    (λ before after. l.held.came + length after ≡ l.initial.held.came + length before)
     × IsBegun l.begun.passed l.begun.clean l.held
     × (gone l.initial.held + l.begun.passed ≡ gone l.held)
     × (g.S.Source.faults l.initial.source ≤ g.S.Source.faults l.source)
