@@ -1,3 +1,4 @@
 mod NodeLemmas
 mod Rows
+mod ShapeLemmas
 pub mod TokenLemmas
