@@ -1,4 +1,5 @@
-mod NodeLemmas
+pub mod NodeLemmas
 mod Rows
 mod ShapeLemmas
 pub mod TokenLemmas
+pub mod VerdictLemmas

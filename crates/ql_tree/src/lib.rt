@@ -17,5 +17,5 @@ pub use reserved::is_reserved;
 pub use token::{Token, TokenKind};
 pub use tree::{AggregateOp, ArithOp, BinaryOp, Expr, Grouping, Matching, Side};
 pub use types::{ExprType, Shape, TypeFault};
-pub use typing::child;
+pub use typing::{child, type_of};
 pub use word::{Keyword, Word};
