@@ -2,4 +2,5 @@ pub mod NodeLemmas
 mod Rows
 mod ShapeLemmas
 pub mod TokenLemmas
+pub mod TypeLemmas
 pub mod VerdictLemmas

@@ -1,5 +1,6 @@
 -- How the verdicts of the children make that of their parent.
-use Rattle.std.proofs.Common.{◌≡◌, ℕ, zero, suc, ◌+◌, ◌<◌, ◌≤◌, List, [], ◌∷◌, ◌++◌, Option, Some, None, Result, Ok, Err, map, max, length, take, slice_get, refl, ap, sym, subst, ◌∙◌, arith, zero-add}
+use Rattle.std.proofs.Common.{◌≡◌, ℕ, zero, suc, ◌+◌, ◌<◌, ◌≤◌, List, [], ◌∷◌, ◌++◌, Option, Some, None, Result, Ok, Err, map, max, length, take, slice_get, refl, ap, sym, subst, ◌∙◌, arith, zero-add, ◌-◌, length-append}
+use Rattle.std.proofs.lemmas.Option.{slice_get_within}
 use Rattle.std.specs.Option.{option_and_then, option_map}
 use Rattle.ql_tree.specs.Children.{children_of, greatest, depth_of}
 use Rattle.ql_tree.specs.Typed.{rule_of, shape_of, all_some}
@@ -70,3 +71,17 @@ child_fails e ss next path shapes at is =
 
 pub child_below : (e : Expr) (n : ℕ) (next : Expr) → slice_get (children e) n ≡ Some next → depth_of next < depth_of e
 child_below e n next at = let inner = less_deep (children e) n next at in omega (arith, depth_out e)
+
+-- how a loop over the children knows the next
+pub found_at : (es : List Expr) (n m : ℕ) (e : Expr) → Some e ≡ slice_get es n → n ≡ m → slice_get es m ≡ Some e
+found_at es n m e is same = ap (slice_get es) (sym same) ∙ sym is
+
+pub none_at : (es : List Expr) (n m : ℕ) → None ≡ slice_get es n → n ≡ m → slice_get es m ≡ None
+none_at es n m is same = ap (slice_get es) (sym same) ∙ sym is
+
+pub one_fewer : (es : List Expr) (ss new : List Shape) (s : Shape) (e : Expr) → slice_get es (length ss) ≡ Some e → new ≡ ss ++ (s ∷ [])
+    → length es - length new < length es - length ss
+one_fewer es ss new s e at is =
+    let inside : length ss < length es = slice_get_within es (length ss) e at in
+    let longer : length new ≡ length ss + 1 = ap length is ∙ length-append ss (s ∷ []) in
+    omega arith
