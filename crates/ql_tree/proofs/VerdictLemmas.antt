@@ -1,6 +1,7 @@
 -- How the verdicts of the children make that of their parent.
-use Rattle.std.proofs.Common.{◌≡◌, ℕ, zero, suc, ◌+◌, ◌<◌, ◌≤◌, List, [], ◌∷◌, ◌++◌, Option, Some, None, Result, Ok, Err, map, max, length, take, slice_get, refl, ap, sym, subst, ◌∙◌, arith, zero-add, ◌-◌, length-append}
-use Rattle.std.proofs.lemmas.Option.{slice_get_within}
+use Rattle.std.proofs.Common.{◌≡◌, ℕ, zero, suc, ◌+◌, ◌<◌, ◌≤◌, List, [], ◌∷◌, ◌++◌, Option, Some, None, Result, Ok, Err, map, max, length, take, slice_get, get_or, ◌*◌, refl, ap, sym, subst, ◌∙◌, arith, zero-add, ◌-◌, length-append}
+use Rattle.std.proofs.lemmas.Option.{slice_get_within, slice_get_read}
+use Rattle.std.proofs.lemmas.List.{map-append}
 use Rattle.std.specs.Option.{option_and_then, option_map}
 use Rattle.ql_tree.specs.Children.{children_of, greatest, depth_of}
 use Rattle.ql_tree.specs.Typed.{rule_of, shape_of, all_some}
@@ -85,3 +86,23 @@ one_fewer es ss new s e at is =
     let inside : length ss < length es = slice_get_within es (length ss) e at in
     let longer : length new ≡ length ss + 1 = ap length is ∙ length-append ss (s ∷ []) in
     omega arith
+
+greatest-append : (ms ns : List ℕ) → greatest (ms ++ ns) ≡ max (greatest ms) (greatest ns)
+greatest-append [] ns = omega arith
+greatest-append (m ∷ ms) ns = omega (arith, greatest-append ms ns)
+
+-- the children on either side are less deep
+pub left_below : (e : Expr) (ls rs : List Expr) → children e ≡ ls ++ rs → 2 * greatest (map depth_of ls) + 1 < 2 * depth_of e
+left_below e ls rs is =
+    let whole : greatest (map depth_of (children e)) ≡ max (greatest (map depth_of ls)) (greatest (map depth_of rs)) =
+        ap (λ es. greatest (map depth_of es)) is ∙ ap greatest (map-append depth_of ls rs) ∙ greatest-append (map depth_of ls) (map depth_of rs) in
+    omega (arith, depth_out e)
+
+pub right_below : (e : Expr) (ls rs : List Expr) → children e ≡ ls ++ rs → 2 * greatest (map depth_of rs) + 1 < 2 * depth_of e
+right_below e ls rs is =
+    let whole : greatest (map depth_of (children e)) ≡ max (greatest (map depth_of ls)) (greatest (map depth_of rs)) =
+        ap (λ es. greatest (map depth_of es)) is ∙ ap greatest (map-append depth_of ls rs) ∙ greatest-append (map depth_of ls) (map depth_of rs) in
+    omega (arith, depth_out e)
+
+pub item_below : (es : List Expr) (i : ℕ) (e : Expr) → i < length es → e ≡ get_or es i e → 2 * depth_of e < 2 * greatest (map depth_of es) + 1
+item_below es i e inside is = let inner = less_deep es i e (slice_get_read es (length es) i e refl inside is) in omega arith

@@ -4,6 +4,7 @@
 #![tactic(auto)]
 
 mod calls;
+mod copies;
 mod reserved;
 mod rules;
 mod shapes;
