@@ -33,7 +33,7 @@ module _ {X Y : Type 0} (f : X → Y) where
   rule-map (Expr-F.Str text) = refl
   rule-map (Expr-F.Select name matchers range offset) = refl
   rule-map (Expr-F.Unary minus of) = refl
-  rule-map (Expr-F.Binary op boolean m left right) = 
+  rule-map (Expr-F.Binary op boolean m left right) =
       ap (λ n. λ shapes. operands_shape n (length (map f right)) op boolean m shapes) (length-map left f)
       ∙ ap (λ n. λ shapes. operands_shape (length left) n op boolean m shapes) (length-map right f)
   rule-map (Expr-F.Call function args) = refl

@@ -95,13 +95,13 @@ greatest-append (m ∷ ms) ns = omega (arith, greatest-append ms ns)
 pub left_below : (e : Expr) (ls rs : List Expr) → children e ≡ ls ++ rs → 2 * greatest (map depth_of ls) + 1 < 2 * depth_of e
 left_below e ls rs is =
     let whole : greatest (map depth_of (children e)) ≡ max (greatest (map depth_of ls)) (greatest (map depth_of rs)) =
-        ap (λ es. greatest (map depth_of es)) is ∙ ap greatest (map-append depth_of ls rs) ∙ greatest-append (map depth_of ls) (map depth_of rs) in
+    ap (λ es. greatest (map depth_of es)) is ∙ ap greatest (map-append depth_of ls rs) ∙ greatest-append (map depth_of ls) (map depth_of rs) in
     omega (arith, depth_out e)
 
 pub right_below : (e : Expr) (ls rs : List Expr) → children e ≡ ls ++ rs → 2 * greatest (map depth_of rs) + 1 < 2 * depth_of e
 right_below e ls rs is =
     let whole : greatest (map depth_of (children e)) ≡ max (greatest (map depth_of ls)) (greatest (map depth_of rs)) =
-        ap (λ es. greatest (map depth_of es)) is ∙ ap greatest (map-append depth_of ls rs) ∙ greatest-append (map depth_of ls) (map depth_of rs) in
+    ap (λ es. greatest (map depth_of es)) is ∙ ap greatest (map-append depth_of ls rs) ∙ greatest-append (map depth_of ls) (map depth_of rs) in
     omega (arith, depth_out e)
 
 pub item_below : (es : List Expr) (i : ℕ) (e : Expr) → i < length es → e ≡ get_or es i e → 2 * depth_of e < 2 * greatest (map depth_of es) + 1

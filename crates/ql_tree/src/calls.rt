@@ -97,8 +97,16 @@ fn label_join(args: &[Shape]) -> Option<Shape>
     if args.len() < 4 {
         return None;
     }
-    let types = [ExprType::Vector, ExprType::Str, ExprType::Str, ExprType::Str];
-    if have_types(&args[..4], &types) && all_strings(&args[4..]) && is_label_name(text_at(1, args)) {
+    let types = [
+        ExprType::Vector,
+        ExprType::Str,
+        ExprType::Str,
+        ExprType::Str,
+    ];
+    if have_types(&args[..4], &types)
+        && all_strings(&args[4..])
+        && is_label_name(text_at(1, args))
+    {
         Some(Shape::Vector)
     } else {
         None

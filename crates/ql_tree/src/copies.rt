@@ -20,7 +20,12 @@ fn copied(alloc: Global, expr: &Expr) -> Result<Expr, NoMemory>
     match expr {
         Expr::Number(n) => Ok(Expr::Number(*n)),
         Expr::Str(text) => Ok(Expr::Str(Text::from_str(alloc, text.as_str())?)),
-        Expr::Select { name, matchers, range, offset } => Ok(Expr::Select {
+        Expr::Select {
+            name,
+            matchers,
+            range,
+            offset,
+        } => Ok(Expr::Select {
             name: copy_name(alloc, name)?,
             matchers: copy_matchers(alloc, matchers.as_slice())?,
             range: *range,
@@ -30,7 +35,13 @@ fn copied(alloc: Global, expr: &Expr) -> Result<Expr, NoMemory>
             minus: *minus,
             of: copy_all(alloc, of.as_slice())?,
         }),
-        Expr::Binary { op, boolean, matching, left, right } => Ok(Expr::Binary {
+        Expr::Binary {
+            op,
+            boolean,
+            matching,
+            left,
+            right,
+        } => Ok(Expr::Binary {
             op: *op,
             boolean: *boolean,
             matching: copy_matching(alloc, matching)?,
@@ -41,7 +52,12 @@ fn copied(alloc: Global, expr: &Expr) -> Result<Expr, NoMemory>
             function: Text::from_str(alloc, function.as_str())?,
             args: copy_all(alloc, args.as_slice())?,
         }),
-        Expr::Aggregate { op, grouping, param, of } => Ok(Expr::Aggregate {
+        Expr::Aggregate {
+            op,
+            grouping,
+            param,
+            of,
+        } => Ok(Expr::Aggregate {
             op: *op,
             grouping: copy_grouping(alloc, grouping)?,
             param: copy_all(alloc, param.as_slice())?,

@@ -62,7 +62,8 @@ fn may_match(op: BinaryOp, matching: &Option<Matching>) -> bool
 {
     match matching {
         None => true,
-        Some(m) => !(is_set(op) && has_side(&m.side)) && are_apart(m.on, m.labels.as_slice(), &m.side),
+        Some(m) => !(is_set(op) && has_side(&m.side))
+            && are_apart(m.on, m.labels.as_slice(), &m.side),
     }
 }
 
@@ -87,7 +88,9 @@ fn are_apart(on: bool, labels: &[Text], side: &Option<Side>) -> bool
 fn none_among(labels: &[Text], include: &[Text]) -> bool
     ensures { result ≡ list_all (spec.is_missing labels.now) include.now }
 {
-    include.iter().all(|label| !is_among(labels, label.as_str()))
+    include
+        .iter()
+        .all(|label| !is_among(labels, label.as_str()))
 }
 
 fn is_among(labels: &[Text], label: &str) -> bool

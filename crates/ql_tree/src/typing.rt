@@ -12,8 +12,8 @@ ghost use Rattle.ql_tree.specs.declared.tree.Expr.TheViews.{out-Expr};
 
 use crate::calls::{call, is_pattern};
 use crate::rules::{aggregate, binary, sign};
-use crate::tree::Expr;
 use crate::shapes::type_of_shape;
+use crate::tree::Expr;
 use crate::types::{ExprType, Shape, TypeFault};
 use op_base::{List, MatchOp, Matcher, NoMemory, Span, Text};
 use std::alloc::Global;
@@ -143,9 +143,19 @@ fn rule(alloc: Global, expr: &Expr, shapes: &[Shape]) -> Result<Option<Shape>, N
     match expr {
         Expr::Number(_) => Ok(Some(Shape::Scalar)),
         Expr::Str(text) => Ok(Some(Shape::Str(Text::from_str(alloc, text.as_str())?))),
-        Expr::Select { matchers, range, .. } => select(alloc, matchers.as_slice(), range),
+        Expr::Select {
+            matchers,
+            range,
+            ..
+        } => select(alloc, matchers.as_slice(), range),
         Expr::Unary { .. } => Ok(sign(shapes)),
-        Expr::Binary { op, boolean, matching, left, right } => {
+        Expr::Binary {
+            op,
+            boolean,
+            matching,
+            left,
+            right,
+        } => {
             if left.len() == 1 && right.len() == 1 {
                 Ok(binary(*op, *boolean, matching, shapes))
             } else {
@@ -153,11 +163,19 @@ fn rule(alloc: Global, expr: &Expr, shapes: &[Shape]) -> Result<Option<Shape>, N
             }
         }
         Expr::Call { function, .. } => call(alloc, function.as_str(), shapes),
-        Expr::Aggregate { op, param, .. } => Ok(aggregate(*op, &shapes[..param.len()], &shapes[param.len()..])),
+        Expr::Aggregate { op, param, .. } => Ok(aggregate(
+            *op,
+            &shapes[..param.len()],
+            &shapes[param.len()..],
+        )),
     }
 }
 
-fn select(alloc: Global, matchers: &[Matcher], range: &Option<Span>) -> Result<Option<Shape>, NoMemory>
+fn select(
+    alloc: Global,
+    matchers: &[Matcher],
+    range: &Option<Span>,
+) -> Result<Option<Shape>, NoMemory>
     ensures { IfOk result (λ found. found ≡ spec.select_shape matchers.now range.now) }
 {
     if all_sound(alloc, matchers)? {

@@ -13,7 +13,7 @@ loop-next-init t c = subst (λ ss. AreShapes ss (children c.args.expr.now)) (sym
 pub shape-requires : goal.shape-requires
 shape-requires t c =
     let below : depth_of c.in-Some.next.now < depth_of c.args.expr.now =
-        child_below c.args.expr.now _ c.in-Some.next.now (found_at _ _ _ _ c.in-Some.ensures c.len.ensures) in
+    child_below c.args.expr.now _ c.in-Some.next.now (found_at _ _ _ _ c.in-Some.ensures c.len.ensures) in
     search rules
 
 pub loop-next-smaller : goal.loop-next-smaller
@@ -22,14 +22,14 @@ loop-next-smaller t c = one_fewer _ _ _ _ _ (found_at _ _ _ _ c.in-Some.ensures 
 pub loop-next-preserved : goal.loop-next-preserved
 loop-next-preserved t c =
     subst (λ ss. AreShapes ss (children c.args.expr.now)) (sym c.in_ok-push-in-Ok.ensures.ok)
-        (one_more _ _ _ _ c.loop-next.invariant (found_at _ _ _ _ c.in-Some.ensures c.len.ensures) c.in-Ok.ensures.shape)
+    (one_more _ _ _ _ c.loop-next.invariant (found_at _ _ _ _ c.in-Some.ensures c.len.ensures) c.in-Ok.ensures.shape)
 
 pub returns-in-Err-clause-fault : goal.returns-in-Err-clause-fault
 returns-in-Err-clause-fault t c =
     c.above.ensures (verdict_of c.in-Some.next.now) (verdict_of c.args.expr.now) c.in-Err.ensures.fault
-        (λ path is. child_fails c.args.expr.now _ c.in-Some.next.now path c.loop-next.invariant
-                (found_at _ _ _ _ c.in-Some.ensures c.len.ensures) is
-            ∙ ap (λ n. Err (n ∷ path)) (sym c.len-in-Err.ensures))
+    (λ path is. child_fails c.args.expr.now _ c.in-Some.next.now path c.loop-next.invariant
+    (found_at _ _ _ _ c.in-Some.ensures c.len.ensures) is
+    ∙ ap (λ n. Err (n ∷ path)) (sym c.len-in-Err.ensures))
 
 pub rule-requires : goal.rule-requires
 rule-requires t c =
@@ -38,13 +38,13 @@ rule-requires t c =
 pub returns-clause-shape : goal.returns-clause-shape
 returns-clause-shape t c =
     let is : verdict_of c.args.expr.now ≡ here c.in_ok-rule.field-0 =
-        whole_verdict c.args.expr.now _ c.loop-next.invariant (none_at _ _ _ c.in_default.ensures c.len.ensures)
-        ∙ ap (λ ss. here (rule_of (out-Expr c.args.expr.now) ss)) (sym c.as_slice.ensures) ∙ ap here (sym c.in_ok-rule.ensures) in
+    whole_verdict c.args.expr.now _ c.loop-next.invariant (none_at _ _ _ c.in_default.ensures c.len.ensures)
+    ∙ ap (λ ss. here (rule_of (out-Expr c.args.expr.now) ss)) (sym c.as_slice.ensures) ∙ ap here (sym c.in_ok-rule.ensures) in
     subst (λ v. IfOk c.here.result (λ found. v ≡ Ok found)) (sym is) c.here.ensures.shape
 
 pub returns-clause-fault : goal.returns-clause-fault
 returns-clause-fault t c =
     let is : verdict_of c.args.expr.now ≡ here c.in_ok-rule.field-0 =
-        whole_verdict c.args.expr.now _ c.loop-next.invariant (none_at _ _ _ c.in_default.ensures c.len.ensures)
-        ∙ ap (λ ss. here (rule_of (out-Expr c.args.expr.now) ss)) (sym c.as_slice.ensures) ∙ ap here (sym c.in_ok-rule.ensures) in
+    whole_verdict c.args.expr.now _ c.loop-next.invariant (none_at _ _ _ c.in_default.ensures c.len.ensures)
+    ∙ ap (λ ss. here (rule_of (out-Expr c.args.expr.now) ss)) (sym c.as_slice.ensures) ∙ ap here (sym c.in_ok-rule.ensures) in
     subst (λ v. IfErr c.here.result (IsFault v)) (sym is) c.here.ensures.fault
