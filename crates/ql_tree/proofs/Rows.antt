@@ -1,5 +1,5 @@
 -- Worked rows of the definitions.
-use Rattle.std.proofs.Common.{◌≡◌, ℕ, ◌∷◌, [], Some, None, false, refl, pos, codes, lit<}
+use Rattle.std.proofs.Common.{◌≡◌, ◌∷◌, [], Some, None, false, refl, pos, codes, lit<}
 use lib.Utf8.{encode}
 use Rattle.ql_tree.specs.Calls.{call_shape, parameters_of, label_join_shape}
 use Rattle.ql_tree.specs.Durations.{is_duration}

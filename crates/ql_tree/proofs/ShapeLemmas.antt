@@ -1,5 +1,5 @@
 -- Children that are too few haven't the types asked for.
-use Rattle.std.proofs.Common.{◌≡◌, ℕ, ◌<◌, Bool, true, false, List, [], ◌∷◌, ◌&&◌, length, take, refl, arith}
+use Rattle.std.proofs.Common.{◌≡◌, ◌<◌, Bool, false, List, [], ◌∷◌, ◌&&◌, length, take, refl, arith}
 use Rattle.std.proofs.lemmas.List.{take_all}
 use Rattle.ql_tree.specs.Shapes.{have_types}
 use Rattle.ql_tree.specs.declared.types.Shape.{Shape}

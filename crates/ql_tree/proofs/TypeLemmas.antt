@@ -1,7 +1,7 @@
 -- A tree has the type that its verdict gives, and none where the verdict is a fault.
-use Rattle.std.proofs.Common.{◌≡◌, ℕ, zero, suc, ◌+◌, ◌<◌, ◌≤◌, List, [], ◌∷◌, Option, Some, None, Result, Ok, Err, map, max, refl, ap, sym, ◌∙◌, arith}
+use Rattle.std.proofs.Common.{◌≡◌, ℕ, zero, suc, ◌+◌, ◌≤◌, List, [], ◌∷◌, Option, Some, None, Result, Ok, Err, map, refl, ap, sym, ◌∙◌, arith}
 use Rattle.std.specs.Option.{option_and_then, option_map}
-use Rattle.ql_tree.specs.Children.{children_of, greatest, depth_of}
+use Rattle.ql_tree.specs.Children.{greatest, depth_of}
 use Rattle.ql_tree.specs.Shapes.{type_of_shape}
 use Rattle.ql_tree.specs.Typed.{rule_of, shape_of, all_some, Typed}
 use Rattle.ql_tree.specs.Untyped.{Verdict, verdict_of, node_verdict, verdicts_from, and_shapes, here}

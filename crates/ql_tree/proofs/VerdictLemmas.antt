@@ -1,15 +1,14 @@
 -- How the verdicts of the children make that of their parent.
-use Rattle.std.proofs.Common.{◌≡◌, ℕ, zero, suc, ◌+◌, ◌<◌, ◌≤◌, List, [], ◌∷◌, ◌++◌, Option, Some, None, Result, Ok, Err, map, max, length, take, slice_get, get_or, ◌*◌, refl, ap, sym, subst, ◌∙◌, arith, zero-add, ◌-◌, length-append}
+use Rattle.std.proofs.Common.{◌≡◌, ℕ, zero, suc, ◌+◌, ◌<◌, ◌≤◌, List, [], ◌∷◌, ◌++◌, Some, None, Ok, Err, map, max, length, slice_get, get_or, ◌*◌, refl, ap, sym, ◌∙◌, arith, zero-add, ◌-◌, length-append}
 use Rattle.std.proofs.lemmas.Option.{slice_get_within, slice_get_read}
 use Rattle.std.proofs.lemmas.List.{map-append}
-use Rattle.std.specs.Option.{option_and_then, option_map}
 use Rattle.ql_tree.specs.Children.{children_of, greatest, depth_of}
-use Rattle.ql_tree.specs.Typed.{rule_of, shape_of, all_some}
-use Rattle.ql_tree.specs.Untyped.{Verdict, verdict_of, node_verdict, verdicts_from, and_shapes, here}
+use Rattle.ql_tree.specs.Typed.{rule_of}
+use Rattle.ql_tree.specs.Untyped.{verdict_of, node_verdict, verdicts_from, and_shapes, here}
 use Rattle.ql_tree.specs.declared.tree.Expr.{Expr}
 use Rattle.ql_tree.specs.declared.tree.Expr.TheViews.{out-Expr}
 use Rattle.ql_tree.specs.declared.types.Shape.{Shape}
-use Rattle.ql_tree.proofs.NodeLemmas.{verdict_out, shape_out, depth_out}
+use Rattle.ql_tree.proofs.NodeLemmas.{verdict_out, depth_out}
 
 abbrev pub children : Expr → List Expr
 children e = children_of (out-Expr e)

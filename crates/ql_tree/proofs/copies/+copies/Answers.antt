@@ -1,4 +1,4 @@
-use Rattle.std.proofs.Common.{◌≡◌, ◌+◌, ◌*◌, ◌<◌, ◌++◌, map, ◌∙◌, subst, sym, ap, arith, rules}
+use Rattle.std.proofs.Common.{◌≡◌, ◌+◌, ◌*◌, ◌<◌, ◌++◌, map, ◌∙◌, ap, arith, rules}
 use Rattle.ql_tree.specs.Children.{children_of, depth_of, greatest}
 use Rattle.ql_tree.proofs.NodeLemmas.{out-Binary, out-Aggregate}
 use Rattle.ql_tree.proofs.VerdictLemmas.{children, left_below, right_below, item_below}

@@ -1,4 +1,4 @@
-use Rattle.std.proofs.Common.{◌≡◌, ◌+◌, ◌<◌, List, [], ◌∷◌, Some, None, Ok, Err, IfOk, IfErr, length, slice_get, arith, rules, sym, subst, ap, ◌∙◌}
+use Rattle.std.proofs.Common.{◌≡◌, ◌<◌, ◌∷◌, Ok, Err, IfOk, IfErr, length, rules, sym, subst, ap, ◌∙◌}
 use Rattle.ql_tree.specs.Children.{depth_of}
 use Rattle.ql_tree.specs.Faults.{IsFault}
 use Rattle.ql_tree.specs.Typed.{rule_of}

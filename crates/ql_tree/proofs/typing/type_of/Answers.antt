@@ -1,5 +1,5 @@
 use Rattle.ql_tree.proofs.TypeLemmas.{typed_is, untyped_is}
-use Rattle.std.proofs.Common.{◌≡◌, subst, sym}
+use Rattle.std.proofs.Common.{subst, sym}
 use Rattle.ql_tree.specs.Faults.{IsFault}
 use Rattle.ql_tree.specs.Typed.{Typed}
 use Rattle.ql_tree.specs.Untyped.{verdict_of}
