@@ -1,5 +1,7 @@
+mod CaptureLemmas
 pub mod EntryLemmas
 mod PatternLemmas
 mod SpanLemmas
 mod SpanReadLemmas
 mod TableLemmas
+mod TemplateLemmas

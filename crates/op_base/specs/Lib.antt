@@ -4,6 +4,8 @@ pub mod Maps
 pub mod Matchers
 pub mod Names
 pub mod Patterns
+pub mod Selectors
 pub mod Spans
+pub mod Tags
 pub mod Entries
 pub mod formers

@@ -1,8 +1,10 @@
 -- Patterns: the regular expressions of the crate `regex`, anchored at both ends as Prometheus
 -- anchors them, with three forms that mean what they say without it.
-use Rattle.std.specs.Prelude.{◌≡◌, ℕ, Bool, true, false, not, ◌||◌, ◌==◌, List, [], ◌∷◌, ◌++◌, codes, chars, bytes_eq, Option, Some, None, IsSome, is_some, option_map, option_and_then, IsSomeAnd, nat_le, if◌then◌else◌}
+use Rattle.std.specs.Prelude.{◌≡◌, ℕ, Bool, true, false, not, ◌||◌, ◌==◌, List, [], ◌∷◌, ◌++◌, codes, chars, bytes_eq, Option, Some, None, IsSome, is_some, option_map, option_and_then, replicate, IsSomeAnd, nat_le, nat_lt, if◌then◌else◌}
 use Rattle.std.specs.Option.{option_map_or}
 use Rattle.regex_syntax.specs.Grammar.{Names, read}
+use Rattle.regex.specs.Templates.{written_after}
+use Rattle.regex.specs.Replace.{group_bytes}
 use Rattle.regex.specs.Patterns.{Re, find_str, default_config, SameCaptures}
 use Rattle.regex.specs.Strings.{regex_pattern, regex_names}
 use Rattle.regex.specs.declared.string.regex.Regex.{Regex}
@@ -76,6 +78,26 @@ meaning_matches value (regular re names) = is_some (find_str re value 0)
 -- whether a value matches the pattern that a text is
 abbrev pub pattern_matches : List ℕ → List ℕ → Bool
 pattern_matches text value = option_map_or (meaning_matches value) (meaning_of text) false
+
+-- what group n matched where so many groups, from 0 on, matched the whole value
+abbrev pub whole_group : ℕ → List ℕ → ℕ → List ℕ
+whole_group count value n = if nat_lt n count then value else []
+
+-- what a template stands for there; none of these groups has a name
+abbrev pub written_whole : ℕ → List ℕ → List ℕ → List ℕ
+written_whole count value template = written_after (replicate count None) (whole_group count value) template 0
+
+-- what a template stands for at a value that matches: group 0 is the whole value
+abbrev pub meaning_expands : List ℕ → List ℕ → Meaning → Option (List ℕ)
+meaning_expands value template every = Some (written_whole 2 value template)
+meaning_expands value template nonempty = if bytes_eq value [] then None else Some (written_whole 2 value template)
+meaning_expands value template (plain text) = if bytes_eq text value then Some (written_whole 1 value template) else None
+meaning_expands value template (regular re names) =
+    option_map (λ found. written_after names (group_bytes value found) template 0) (find_str re value 0)
+
+-- the same of the pattern that a text is
+abbrev pub pattern_expands : List ℕ → List ℕ → List ℕ → Option (List ℕ)
+pattern_expands text value template = option_and_then (meaning_expands value template) (meaning_of text)
 
 -- a compiled pattern finds what the reading finds
 abbrev pub IsRegular : Regex → Meaning → Type 0

@@ -16,11 +16,13 @@ mod memory;
 mod moment;
 mod names;
 mod pattern;
+mod selector;
 mod span;
 mod spare;
 mod steps;
 mod table;
 mod tags;
+mod template;
 mod text;
 
 pub use key::Key;
@@ -32,9 +34,13 @@ pub use memory::NoMemory;
 pub use moment::Moment;
 pub use names::{is_label_name, is_metric_name, is_name, is_namespace};
 pub use pattern::{Pattern, PatternFault};
+pub use selector::{Requirement, Selector};
 pub use span::{Span, SpanFault, read_span, span_text};
 pub use spare::{Spare, insert_with};
 pub use steps::Steps;
 pub use table::Table;
-pub use tags::Tags;
+pub use tags::{Tags, is_tag_key, is_tag_value};
 pub use text::Text;
+
+#[cfg(test)]
+mod tests;

@@ -1,12 +1,15 @@
-ghost use Rattle.std.specs.Prelude.{◌≡◌, ◌++◌, false, None, Err, IfOk, OnOk, MatchOption, is_some, option_map};
+ghost use Rattle.std.specs.Prelude.{◌≡◌, ◌++◌, false, None, Err, IfOk, OnOk, MatchOption, is_some, option_map, option_and_then};
 ghost use Rattle.std.specs.Option.{option_map_or};
 ghost use Rattle.regex.specs.Patterns.{find_str, SameCaptures};
-ghost use Rattle.regex.specs.Strings.{regex_pattern};
+ghost use Rattle.regex.specs.Strings.{regex_pattern, regex_names};
+ghost use Rattle.regex.specs.Templates.{written_after};
+ghost use Rattle.regex.specs.Replace.{group_bytes};
 ghost use Rattle.op_base.specs.Patterns as spec;
 
 use crate::memory::NoMemory;
+use crate::template::written;
 use crate::text::Text;
-use regex::{Error, Regex};
+use regex::{Error, Regex, Template};
 use std::alloc::{AllocError, Global};
 use std::marker::Model;
 
@@ -77,6 +80,63 @@ impl Pattern {
         ensures { IfOk result (λ found. found ≡ spec.pattern_matches self.now value.now) }
     {
         form_matches(self.alloc, &self.form, value)
+    }
+
+    /// What the template stands for where the whole value matches, and none where it doesn't. In a
+    /// template `$1`, `$name` and `${name}` stand for groups and `$$` for `$`, as `regex` reads it.
+    pub fn expand(&self, value: &str, template: &str) -> Result<Option<Text>, NoMemory>
+        ensures { IfOk result (λ text. text ≡ spec.pattern_expands self.now value.now template.now) }
+    {
+        form_expands(self.alloc, &self.form, value, template)
+    }
+}
+
+fn form_expands(
+    alloc: Global,
+    form: &Form,
+    value: &str,
+    template: &str,
+) -> Result<Option<Text>, NoMemory>
+    ensures { IfOk result (λ text. (meaning : _) → spec.IsFormOf meaning form.now
+        → text ≡ option_and_then (spec.meaning_expands value.now template.now) meaning) }
+{
+    match form {
+        Form::Every => Ok(Some(written(alloc, 2, value, template)?)),
+        Form::NotEmpty => {
+            if value.as_bytes().is_empty() {
+                return Ok(None);
+            }
+            Ok(Some(written(alloc, 2, value, template)?))
+        }
+        Form::Plain(text) => {
+            if text.as_slice() == value.as_bytes() {
+                return Ok(Some(written(alloc, 1, value, template)?));
+            }
+            Ok(None)
+        }
+        Form::Regular(regex) => captured(alloc, regex, value, template),
+    }
+}
+
+fn captured(
+    alloc: Global,
+    regex: &Regex,
+    value: &str,
+    template: &str,
+) -> Result<Option<Text>, NoMemory>
+    ensures { IfOk result (λ text. (re : _) → SameCaptures (regex_pattern regex.now) re
+        → text ≡ option_map (λ found. written_after (regex_names regex.now) (group_bytes value.now found) template.now 0)
+        (find_str re value.now 0)) }
+{
+    let template = Template::new(alloc, regex.capture_names(), template)?;
+    let mut matcher = regex.matcher(alloc)?;
+    match matcher.captures(value) {
+        None => Ok(None),
+        Some(captures) => {
+            let mut text = String::new(alloc);
+            captures.expand(alloc, &template, &mut text)?;
+            Ok(Some(Text::from_string(text)))
+        }
     }
 }
 

@@ -1,6 +1,6 @@
 ghost use Rattle.std.specs.Prelude.{◌≡◌, [], length, IsTrue, ◌↔◌, IfOk, OnOk, OnErr};
 ghost use Rattle.std.specs.Option.{option_copied};
-ghost use Rattle.op_base.specs.Maps.{IsMap, value_at, with_entry, keys_of};
+ghost use Rattle.op_base.specs.Maps.{IsMap, value_at, with_entry, with_inner, keys_of, values_of};
 
 use crate::list::List;
 use crate::memory::NoMemory;
@@ -79,5 +79,40 @@ impl<V: Drop> Table<V> {
     {
         self.entries.insert(key.into_string(), value)?;
         Ok(())
+    }
+
+    /// The values in the order of their keys.
+    pub fn into_values(self, alloc: Global) -> Result<List<V>, NoMemory>
+        ensures { IfOk result (λ values. values ≡ values_of self) }
+    {
+        let Table { entries } = self;
+        let mut values = List::new(alloc);
+        for value in entries.into_values() {
+            values.push(value)?;
+        }
+        Ok(values)
+    }
+}
+
+impl<V: Drop> Table<Table<V>> {
+    /// Puts the value at the two keys, in an inner table that it adds where there is none.
+    pub fn insert_in(
+        &mut self,
+        alloc: Global,
+        outer: Text,
+        inner: Text,
+        value: V,
+    ) -> Result<(), NoMemory>
+        ensures ok { OnOk result (self.new ≡ with_inner self.old outer inner value) }
+        ensures err { OnErr result (self.new ≡ self.old) }
+    {
+        match self.entries.get_mut(outer.as_str()) {
+            Some(table) => table.insert(inner, value),
+            None => {
+                let mut table = Table::new(alloc);
+                table.insert(inner, value)?;
+                self.insert(outer, table)
+            }
+        }
     }
 }

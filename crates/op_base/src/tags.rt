@@ -1,7 +1,9 @@
 ghost use Rattle.std.specs.Prelude.{◌≡◌, ◌<◌, [], length, IfOk, OnOk, OnErr};
 ghost use Rattle.std.specs.Option.{option_copied};
+ghost use Rattle.std.specs.List.{list_all};
 ghost use Rattle.op_base.specs.Maps.{IsMap, value_at, with_entry};
 ghost use Rattle.op_base.specs.Labels.{name_in, text_in};
+ghost use Rattle.op_base.specs.Tags as spec;
 
 use crate::entries::{find, put};
 use crate::memory::NoMemory;
@@ -28,6 +30,46 @@ impl Model for Tags {
     ghost view = { λ tags. tags.entries.items };
 
     ghost invariant = { λ tags. IsMap tags.entries.items };
+}
+
+/// Whether the text is the key of a tag: 1 to 317 letters, digits, `.`, `/`, `_` and `-`.
+pub fn is_tag_key(text: &str) -> bool
+    ensures { result ≡ spec.is_tag_key text.now }
+{
+    let bytes = text.as_bytes();
+    1 <= bytes.len() && bytes.len() <= 317 && all_key_bytes(bytes)
+}
+
+/// Whether the text is the value of a tag: at most 63 letters, digits, `.`, `_` and `-`.
+pub fn is_tag_value(text: &str) -> bool
+    ensures { result ≡ spec.is_tag_value text.now }
+{
+    let bytes = text.as_bytes();
+    bytes.len() <= 63 && all_value_bytes(bytes)
+}
+
+fn all_key_bytes(bytes: &[u8]) -> bool
+    ensures { result ≡ list_all spec.is_key_byte bytes.now }
+{
+    bytes.iter().all(|b| is_key_byte(*b))
+}
+
+fn all_value_bytes(bytes: &[u8]) -> bool
+    ensures { result ≡ list_all spec.is_value_byte bytes.now }
+{
+    bytes.iter().all(|b| is_value_byte(*b))
+}
+
+fn is_key_byte(b: u8) -> bool
+    ensures { result ≡ spec.is_key_byte b }
+{
+    is_value_byte(b) || b == b'/'
+}
+
+fn is_value_byte(b: u8) -> bool
+    ensures { result ≡ spec.is_value_byte b }
+{
+    b.is_ascii_alphanumeric() || b == b'.' || b == b'_' || b == b'-'
 }
 
 impl Tags {

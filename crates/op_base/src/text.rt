@@ -1,4 +1,4 @@
-ghost use Rattle.std.specs.Prelude.{◌≡◌, [], ◌++◌, length, IsTrue, ◌↔◌, IfOk, OnOk, OnErr, string_bytes};
+ghost use Rattle.std.specs.Prelude.{◌≡◌, [], ◌++◌, length, IsTrue, ◌↔◌, IfOk, OnOk, OnErr, string_bytes, encode_utf8};
 
 use crate::memory::NoMemory;
 use std::alloc::{AllocError, Global};
@@ -74,6 +74,14 @@ impl Text {
         ensures { IsTrue result ↔ (self.now ≡ []) }
     {
         self.inner.is_empty()
+    }
+
+    pub fn push(&mut self, c: char) -> Result<(), NoMemory>
+        ensures ok { OnOk result (self.new ≡ self.old ++ encode_utf8 c) }
+        ensures err { OnErr result (self.new ≡ self.old) }
+    {
+        self.inner.push(c)?;
+        Ok(())
     }
 
     pub fn push_str(&mut self, more: &str) -> Result<(), NoMemory>

@@ -1,0 +1,38 @@
+use op_base::{List, Matcher, Tags, Text};
+
+/// What one Prometheus and one Alertmanager are configured with.
+#[derive(Debug, PartialEq, Eq, Drop)]
+pub struct Config {
+    /// In the order of the files' texts `NAMESPACE/NAME`.
+    pub rules: List<RuleFile>,
+}
+
+/// The rule groups of one PrometheusRule object.
+#[derive(Debug, PartialEq, Eq, Drop)]
+pub struct RuleFile {
+    pub namespace: Text,
+    pub name: Text,
+    pub groups: List<Group>,
+}
+
+/// Rules that run one after the other.
+#[derive(Debug, PartialEq, Eq, Drop)]
+pub struct Group {
+    pub name: Text,
+    pub rules: List<Rule>,
+}
+
+/// A recording rule: the metric name that it records, its expression and the labels that it sets.
+#[derive(Debug, PartialEq, Eq, Drop)]
+pub struct Rule {
+    pub name: Text,
+    pub expr: PlainSelector,
+    pub labels: Tags,
+}
+
+/// The entries of a metric on whose labels all matchers hold.
+#[derive(Debug, PartialEq, Eq, Drop)]
+pub struct PlainSelector {
+    pub name: Text,
+    pub matchers: List<Matcher>,
+}

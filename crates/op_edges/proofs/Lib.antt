@@ -1,0 +1,4 @@
+pub mod CountLemmas
+pub mod ToldLemmas
+pub mod StreamLemmas
+pub mod LineLemmas

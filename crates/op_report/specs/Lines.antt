@@ -1,0 +1,78 @@
+-- Report lines: the namespace or `-`, a TAB, compact JSON with fields in byte order, a newline.
+use Rattle.std.specs.Prelude.{ℕ, pos, Bool, true, false, List, [], ◌∷◌, ◌++◌, map, Option, Some, None, ◌==◌, ◌&&◌, ◌||◌, option_map, codes}
+use Rattle.std.specs.List.{list_all}
+use Rattle.std.specs.Cmp.Lexicographic.{pointwise}
+use Rattle.op_json.specs.Json.{Json, text, whole, array_of, object_of, given, json_text}
+use Rattle.op_report.specs.declared.view.Also.{Also}
+use Rattle.op_report.specs.declared.view.Report.{Report}
+use Rattle.op_report.specs.declared.view.View.{View}
+use Rattle.op_report.specs.declared.view.View.TheVariants.{Own, BadFile, NotYetFile}
+
+-- one text, or none
+abbrev pub texts_of : Option (List ℕ) → List Json
+texts_of None = []
+texts_of (Some t) = text t ∷ []
+
+-- `[KEY,ANSWER]`, or `[KEY,ANSWER,RULE,PATH]` where there is a rule
+abbrev pub also_json : Also → Json
+also_json also =
+    array_of ((text also.key ∷ text also.answer ∷ []) ++ texts_of also.rule ++ texts_of also.path)
+
+-- the field that names the change
+abbrev pub change_word : Bool → List ℕ
+change_word true = codes "delete"
+change_word false = codes "put"
+
+-- the fields that each put or delete has
+abbrev pub own_fields : Bool → List ℕ → List ℕ → List Also → List (List ℕ × Json)
+own_fields deleted key answer also =
+    (codes "also", array_of (map also_json also)) ∷ (codes "answer", text answer) ∷ (change_word deleted, text key) ∷ []
+
+abbrev pub view_json : View → Json
+-- {"also":[..],"answer":ANSWER,"path":PATH,"put":KEY,"rule":RULE}
+view_json (Own deleted key answer rule path also) = object_of
+    (own_fields deleted key answer also
+    ++ given (codes "rule") (option_map text rule) ++ given (codes "path") (option_map text path))
+-- {"bad":RULE,"file":FILE,"item":ITEM,"path":PATH}
+view_json (BadFile rule file item path) = object_of
+    ((codes "bad", text rule) ∷ (codes "file", text file) ∷ (codes "item", whole (pos item)) ∷ (codes "path", text path) ∷ [])
+-- {"bad":"NotYet","file":FILE,"item":ITEM}
+view_json (NotYetFile file item) = object_of
+    ((codes "bad", text (codes "NotYet")) ∷ (codes "file", text file) ∷ (codes "item", whole (pos item)) ∷ [])
+
+abbrev pub TAB : ℕ
+TAB = 9
+
+abbrev pub NEWLINE : ℕ
+NEWLINE = 10
+
+abbrev pub line_of : List ℕ → View → List ℕ
+line_of to view = to ++ TAB ∷ (json_text (view_json view) ++ NEWLINE ∷ [])
+
+-- the line for a namespace
+abbrev pub tenant_line : List ℕ → View → List ℕ
+tenant_line namespace view = line_of namespace view
+
+-- the line for everyone
+abbrev pub global_line : View → List ℕ
+global_line view = line_of (codes "-") view
+
+-- whom a report is for
+abbrev pub address_of : Option (List ℕ) → List ℕ
+address_of None = codes "-"
+address_of (Some namespace) = namespace
+
+-- the line of a report
+abbrev pub report_line : Report → List ℕ
+report_line report = line_of (address_of report.to) report.view
+
+-- an answer that leaves nothing refused or skipped
+abbrev pub is_good : List ℕ → Bool
+is_good answer =
+    pointwise ◌==◌ answer (codes "Admitted") || pointwise ◌==◌ answer (codes "Unselected") || pointwise ◌==◌ answer (codes "Deleted")
+
+-- each answer of the view is a good one
+abbrev pub answers_well : View → Bool
+answers_well (Own deleted key answer rule path also) = is_good answer && list_all (λ one. is_good one.answer) also
+answers_well (BadFile rule file item path) = false
+answers_well (NotYetFile file item) = false

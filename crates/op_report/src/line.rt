@@ -1,0 +1,184 @@
+ghost use Rattle.std.specs.Prelude.{◌≡◌, true, pos, map, option_map, ◌∷◌, ◌++◌, [], IfOk, IfSome, OnOk};
+ghost use Rattle.serde_json.specs.View as shown;
+ghost use Rattle.op_base.specs.Names.{is_namespace};
+ghost use Rattle.op_json.specs.Json.{data_of, members_after, fields_of, array_of};
+ghost use Rattle.serde_json.specs.Data.{no_members};
+ghost use Rattle.op_report.specs.Lines as spec;
+
+use crate::view::{Also, Report, View};
+use op_base::{List, NoMemory, Text};
+use op_json::{push_item, put_field, put_text, put_text_if, text_of};
+use serde_json::{Map, Value, json};
+use std::alloc::Global;
+
+/// The line that says the view to a tenant.
+pub fn tenant_line(alloc: Global, namespace: &str, view: &View) -> Result<List<u8>, NoMemory>
+    requires { is_namespace namespace.now ≡ true }
+    ensures { IfOk result (λ line. line ≡ spec.tenant_line namespace.now view.now) }
+{
+    line_of(alloc, namespace, view)
+}
+
+/// The line that says the view to everyone.
+pub fn global_line(alloc: Global, view: &View) -> Result<List<u8>, NoMemory>
+    ensures { IfOk result (λ line. line ≡ spec.global_line view.now) }
+{
+    line_of(alloc, "-", view)
+}
+
+/// The line of a report, to its namespace or to everyone.
+pub fn report_line(alloc: Global, report: &Report) -> Result<List<u8>, NoMemory>
+    requires { IfSome report.now.to (λ namespace. is_namespace namespace ≡ true) }
+    ensures { IfOk result (λ line. line ≡ spec.report_line report.now) }
+{
+    match &report.to {
+        Some(namespace) => tenant_line(alloc, namespace.as_str(), &report.view),
+        None => global_line(alloc, &report.view),
+    }
+}
+
+fn line_of(alloc: Global, to: &str, view: &View) -> Result<List<u8>, NoMemory>
+    ensures { IfOk result (λ line. line ≡ spec.line_of to.now view.now) }
+{
+    let value = view_value(alloc, view)?;
+    let text = text_of(alloc, &value)?;
+    let mut line = Vec::from_slice(alloc, to.as_bytes())?;
+    line.push(b'\t')?;
+    line.extend_from_slice(text.as_slice())?;
+    line.push(b'\n')?;
+    Ok(List::from_vec(line))
+}
+
+fn view_value(alloc: Global, view: &View) -> Result<Value, NoMemory>
+    ensures { IfOk result (λ value. shown.view value ≡ data_of (spec.view_json view.now)) }
+{
+    match view {
+        View::Own {
+            deleted,
+            key,
+            answer,
+            rule,
+            path,
+            also,
+        } => own_value(alloc, *deleted, key, answer, rule, path, also),
+        View::BadFile {
+            rule,
+            file,
+            item,
+            path,
+        } => bad_file_value(alloc, rule, file, *item, path),
+        View::NotYetFile { file, item } => not_yet_value(alloc, file, *item),
+    }
+}
+
+fn bad_file_value(
+    alloc: Global,
+    rule: &Text,
+    file: &Text,
+    item: u64,
+    path: &Text,
+) -> Result<Value, NoMemory>
+    ensures { IfOk result (λ value. shown.view value
+        ≡ data_of (spec.view_json (View.BadFile rule.now file.now item path.now))) }
+{
+    let (rule, file, path) = (rule.as_str(), file.as_str(), path.as_str());
+    Ok(json!(in alloc; {"bad": rule, "file": file, "item": item, "path": path})?)
+}
+
+fn not_yet_value(alloc: Global, file: &Text, item: u64) -> Result<Value, NoMemory>
+    ensures { IfOk result (λ value. shown.view value
+        ≡ data_of (spec.view_json (View.NotYetFile file.now item))) }
+{
+    let file = file.as_str();
+    Ok(json!(in alloc; {"bad": "NotYet", "file": file, "item": item})?)
+}
+
+fn own_value(
+    alloc: Global,
+    deleted: bool,
+    key: &Text,
+    answer: &Text,
+    rule: &Option<Text>,
+    path: &Option<Text>,
+    also: &List<Also>,
+) -> Result<Value, NoMemory>
+    ensures { IfOk result (λ value. shown.view value
+        ≡ data_of (spec.view_json (View.Own deleted key.now answer.now rule.now path.now also.now))) }
+{
+    let mut fields = own_fields(alloc, deleted, key, answer, also)?;
+    put_text_if(&mut fields, alloc, "rule", borrowed(rule))?;
+    put_text_if(&mut fields, alloc, "path", borrowed(path))?;
+    Ok(Value::Object(fields))
+}
+
+fn own_fields(
+    alloc: Global,
+    deleted: bool,
+    key: &Text,
+    answer: &Text,
+    also: &List<Also>,
+) -> Result<Map<String, Value>, NoMemory>
+    ensures { IfOk result (λ fields. shown.members_view fields.entries
+        ≡ members_after no_members (fields_of (spec.own_fields deleted key.now answer.now also.now))) }
+{
+    let also = also_array(alloc, also)?;
+    let mut fields = Map::new(alloc);
+    put_field(&mut fields, alloc, "also", also)?;
+    put_text(&mut fields, alloc, "answer", answer.as_str())?;
+    put_text(&mut fields, alloc, change_word(deleted), key.as_str())?;
+    Ok(fields)
+}
+
+fn also_array(alloc: Global, also: &List<Also>) -> Result<Value, NoMemory>
+    ensures { IfOk result (λ value. shown.view value ≡ data_of (array_of (map spec.also_json also.now))) }
+{
+    Ok(Value::Array(also_values(alloc, also.as_slice())?))
+}
+
+fn change_word(deleted: bool) -> &'static str
+    ensures { result.now ≡ spec.change_word deleted }
+{
+    if deleted { "delete" } else { "put" }
+}
+
+fn borrowed(text: &Option<Text>) -> Option<&str>
+    ensures { option_map (λ t. t.now) result ≡ text.now }
+{
+    match text {
+        Some(text) => Some(text.as_str()),
+        None => None,
+    }
+}
+
+fn also_values(alloc: Global, also: &[Also]) -> Result<Vec<Value>, NoMemory>
+    ensures { IfOk result (λ values. map shown.view values.items
+        ≡ map (λ one. data_of (spec.also_json one)) also.now) }
+{
+    let mut values = Vec::new(alloc);
+    for one in also {
+        push_item(&mut values, also_value(alloc, one)?)?;
+    }
+    Ok(values)
+}
+
+fn also_value(alloc: Global, also: &Also) -> Result<Value, NoMemory>
+    ensures { IfOk result (λ value. shown.view value ≡ data_of (spec.also_json also.now)) }
+{
+    let mut texts = Vec::new(alloc);
+    push_text(&mut texts, alloc, Some(also.key.as_str()))?;
+    push_text(&mut texts, alloc, Some(also.answer.as_str()))?;
+    push_text(&mut texts, alloc, borrowed(&also.rule))?;
+    push_text(&mut texts, alloc, borrowed(&also.path))?;
+    Ok(Value::Array(texts))
+}
+
+fn push_text(values: &mut Vec<Value>, alloc: Global, text: Option<&str>) -> Result<(), NoMemory>
+    ensures { OnOk result (map shown.view values.new.items
+        ≡ map shown.view values.old.items
+        ++ map data_of (spec.texts_of (option_map (λ t. t.now) text.entry))) }
+{
+    match text {
+        Some(text) => push_item(values, Value::String(String::from_str(alloc, text)?)),
+        None => Ok(()),
+    }
+}
