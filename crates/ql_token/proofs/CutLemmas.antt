@@ -37,7 +37,7 @@ pub past_token : (whole : List ℕ) (found : List Token) (place : ℕ) (rest : L
 past_token whole found place rest kind n new t before no_gap is push behind = record {
   leads = λ r cut. subst (λ ts. Cut 0 whole (with_tokens ts r)) (sym push) (subst (λ s. Cut 0 whole s) (pushed found (token_of place (kind, n)) r)
       (before.leads (with_token (token_of place (kind, n)) r) (Cut.token place rest (kind, n) r no_gap is
-          (subst (λ u. Cut (place + n) u r) behind cut))));
+      (subst (λ u. Cut (place + n) u r) behind cut))));
 }
 
 pub bad_here : (whole : List ℕ) (found : List Token) (place : ℕ) (rest : List ℕ) → LeadsTo whole found place rest → 0 < length rest

@@ -43,7 +43,7 @@ pieced quote m t (Some found) h =
     let e : found.1 ≡ suc m = cc in
     let d : found.1 - 1 ≡ m = omega (arith, e) in
     rw d (same_length found.0 (inside_from quote m t)
-        ∙ counted m (inside_from quote m t) (length_of quote 0 (drop m t)) (skipped quote m t))
+    ∙ counted m (inside_from quote m t) (length_of quote 0 (drop m t)) (skipped quote m t))
 
 length_of_piece : (quote b n : ℕ) (t : List ℕ) → b ≢ quote → option_map (λ found. found.1) (piece_at quote (b ∷ t)) ≡ Some n → 0 < n
     → length_of quote 0 (b ∷ t) ≡ after n (length_of quote 0 (drop n (b ∷ t)))

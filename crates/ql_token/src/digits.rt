@@ -20,7 +20,11 @@ fn numeric_kind(run: &[u8]) -> Option<TokenKind>
     ensures { result ≡ spec.numeric_kind run.now }
 {
     if all_digits(run) {
-        if fits(run) { Some(TokenKind::Number) } else { None }
+        if fits(run) {
+            Some(TokenKind::Number)
+        } else {
+            None
+        }
     } else if is_duration(run) {
         Some(TokenKind::Duration)
     } else {

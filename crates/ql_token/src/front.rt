@@ -67,7 +67,8 @@ fn doubles(b: u8, rest: &[u8]) -> bool
 fn is_double(b: u8, c: u8) -> bool
     ensures { result ≡ spec.is_double b c }
 {
-    (c == b'=' && (b == b'=' || b == b'!' || b == b'>' || b == b'<')) || (c == b'~' && (b == b'=' || b == b'!'))
+    (c == b'=' && (b == b'=' || b == b'!' || b == b'>' || b == b'<'))
+        || (c == b'~' && (b == b'=' || b == b'!'))
 }
 
 fn is_single(b: u8) -> bool

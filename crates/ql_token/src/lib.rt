@@ -13,3 +13,6 @@ mod strings;
 pub use cut::tokens;
 pub use fault::TokenFault;
 pub use ql_tree::{Token, TokenKind};
+
+#[cfg(test)]
+mod tests;

@@ -1,3 +1,6 @@
-mod NodeLemmas
+pub mod NodeLemmas
 mod Rows
+mod ShapeLemmas
 pub mod TokenLemmas
+pub mod TypeLemmas
+pub mod VerdictLemmas

@@ -1,14 +1,24 @@
 -- Worked rows of the definitions.
-use Rattle.std.proofs.Common.{◌≡◌, [], ◌∷◌, Some, None, refl, codes}
+use Rattle.std.proofs.Common.{◌≡◌, ◌∷◌, [], Some, None, false, refl, pos, codes, lit<}
 use lib.Utf8.{encode}
+use Rattle.ql_tree.specs.Calls.{call_shape, parameters_of, label_join_shape}
 use Rattle.ql_tree.specs.Durations.{is_duration}
-use Rattle.ql_tree.specs.Tokens.{token_at, numeric_kind, symbol_at}
-use Rattle.ql_tree.specs.Strings.{inside_from, piece_at, escape_at, coded, numeral_at, string_value}
-use Rattle.ql_tree.specs.Words.{keyword_of}
+use Rattle.ql_tree.specs.Enforced.{enforced_matchers, matcher_of}
+use Rattle.ql_tree.specs.Operators.{is_comparison}
+use Rattle.ql_tree.specs.Printed.{placed, head_text, quoted_text, matcher_text, braces_text}
 use Rattle.ql_tree.specs.Reserved.{is_reserved}
-use Rattle.ql_tree.specs.Printed.{quoted_text}
+use Rattle.ql_tree.specs.Shapes.{have_types}
+use Rattle.ql_tree.specs.Spells.{Chain, Signed, Atom, Within}
+use Rattle.ql_tree.specs.Strings.{inside_from, piece_at, escape_at, coded, numeral_at, string_value}
+use Rattle.ql_tree.specs.Tokens.{token_at, gap_at, numeric_kind, symbol_at, Cut, IsTokens, token_of}
+use Rattle.ql_tree.specs.Typed.{binary_shape}
+use Rattle.ql_tree.specs.Words.{keyword_of}
 use Rattle.ql_tree.specs.declared.token.TokenKind.TheVariants as kind
+use Rattle.ql_tree.specs.declared.tree.BinaryOp.TheVariants as binary
+use Rattle.ql_tree.specs.declared.tree.Expr.TheVariants as expr
+use Rattle.ql_tree.specs.declared.types.Shape.TheVariants as shape
 use Rattle.ql_tree.specs.declared.word.Keyword.TheVariants as keyword
+use Rattle.ql_tree.specs.declared.word.Word.TheVariants as word
 
 -- `5x` is a number followed by anything else of a word
 number_and_word : token_at (codes "5x ") ≡ None
@@ -50,3 +60,43 @@ unused_word = refl
 quotes : quoted_text (97 ∷ 34 ∷ 92 ∷ 10 ∷ []) ≡ 34 ∷ 97 ∷ 92 ∷ 34 ∷ 92 ∷ 92 ∷ 92 ∷ 110 ∷ 34 ∷ []
 unfolding quoted_text
 quotes = refl
+
+-- a comparison of two scalars without `bool`
+no_bool : binary_shape binary.Eq false None (shape.Scalar ∷ shape.Scalar ∷ []) ≡ None
+unfolding binary_shape have_types is_comparison
+no_bool = refl
+
+rate_of_a_range : call_shape (codes "rate") (shape.Range ∷ []) ≡ Some shape.Vector
+unfolding call_shape parameters_of have_types
+rate_of_a_range = refl
+
+join_of_none : call_shape (codes "label_join") (shape.Vector ∷ shape.Str (codes "a") ∷ shape.Str [] ∷ []) ≡ None
+unfolding call_shape label_join_shape have_types
+join_of_none = refl
+
+other_matchers_stay : enforced_matchers (codes "n") (codes "v") (matcher_of (codes "a") (codes "b") ∷ matcher_of (codes "n") (codes "w") ∷ [])
+    ≡ matcher_of (codes "a") (codes "b") ∷ matcher_of (codes "n") (codes "v") ∷ []
+other_matchers_stay = refl
+
+-- `1`, through each level
+number_spelled : Within 1 (expr.Number (pos 1)) (word.Number (pos 1) ∷ [])
+unfolding Within
+number_spelled =
+    Chain.one _ _ (Chain.one _ _ (Chain.one _ _ (Chain.one _ _ (Chain.one _ _ (Signed.atom _ _ (Atom.number (pos 1)))))))
+
+two_tokens : IsTokens (codes "a 1") ((token_of 0 (kind.Word, 1)) ∷ (token_of 2 (kind.Number, 1)) ∷ [])
+unfolding gap_at token_at numeric_kind
+two_tokens =
+    Cut.token 0 (codes "a 1") (kind.Word, 1) _ refl refl
+    (Cut.gap 1 (codes " 1") _ (lit< tt) (Cut.token 2 (codes "1") (kind.Number, 1) _ refl refl (Cut.end 3)))
+
+operand_in_brackets : placed 1 (2, codes "a + b") ≡ codes "(a + b)"
+unfolding placed
+operand_in_brackets = refl
+
+short_braces : head_text None (matcher_of (codes "a") (codes "b") ∷ []) ≡ codes "{a=\"b\"}"
+unfolding braces_text matcher_text quoted_text
+short_braces = refl
+
+no_braces : head_text (Some (codes "x")) [] ≡ codes "x"
+no_braces = refl

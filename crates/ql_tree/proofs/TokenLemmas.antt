@@ -1,5 +1,5 @@
 -- A text is cut in one way.
-use Rattle.std.proofs.Common.{◌≡◌, ◌≢◌, ℕ, ◌+◌, ◌<◌, List, [], ◌∷◌, Option, Some, None, Result, Ok, Err, drop, length, refl, ap, sym, subst, ◌∙◌, arith}
+use Rattle.std.proofs.Common.{◌≡◌, ◌≢◌, ℕ, ◌+◌, ◌<◌, List, [], Some, None, Result, Ok, Err, drop, refl, ap, sym, subst, ◌∙◌, arith}
 use Rattle.ql_tree.specs.Tokens.{gap_at, token_at, Cut, with_token, token_of, IsTokens, IsBadAt}
 use Rattle.ql_tree.specs.declared.token.Token.{Token}
 use Rattle.ql_tree.specs.declared.token.TokenKind.{TokenKind}

@@ -1,5 +1,5 @@
 -- The functions of PromQL: what they take, and what a call of one is.
-use Rattle.std.specs.Prelude.{ℕ, Bool, true, false, List, [], ◌∷◌, Option, Some, None, ◌&&◌, codes, bytes_eq, take, drop, if◌then◌else◌}
+use Rattle.std.specs.Prelude.{ℕ, Bool, List, [], ◌∷◌, Option, Some, None, ◌&&◌, codes, bytes_eq, take, drop, if◌then◌else◌}
 use Rattle.std.specs.List.{list_all, list_any}
 use Rattle.op_base.specs.Names.{is_label_name}
 use Rattle.ql_tree.specs.Patterns.{is_pattern}

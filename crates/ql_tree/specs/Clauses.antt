@@ -36,7 +36,7 @@ pub data MatchingOf (n : ℕ) (opens : Bool) : Option Matching → List Word →
   given : (w : Word) (on : Bool) (labels : List (List ℕ)) (side : Option Side) (ts us : List Word) → matching_of w ≡ Some on
       → 0 < n → Labels labels ts → SideOf n opens side us
       → MatchingOf n opens (Some (record { on = on; labels = labels; side = side }))
-        (w ∷ word.Open ∷ (ts ++ (word.Close ∷ us)))
+      (w ∷ word.Open ∷ (ts ++ (word.Close ∷ us)))
 
 -- `by (..)` or `without (..)`
 pub data GroupingOf (n : ℕ) : Grouping → List Word → Type 0 where

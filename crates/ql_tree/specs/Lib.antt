@@ -3,6 +3,7 @@ pub mod Children
 pub mod Clauses
 pub mod Durations
 pub mod Enforced
+pub mod Faults
 pub mod Operators
 pub mod Patterns
 pub mod Printed

@@ -129,9 +129,11 @@ print_step (Expr-F.Number n) = (0, signed_decimal n)
 print_step (Expr-F.Str text) = (0, quoted_text text)
 print_step (Expr-F.Select name matchers range offset) = (0, head_text name matchers ++ range_text range ++ offset_text offset)
 print_step (Expr-F.Unary minus of) = (0, (if minus then codes "-" else codes "+") ++ operand_text 0 of)
-print_step (Expr-F.Binary op boolean m left right) =
-    (level_of op, operand_text (level_of op) left ++ codes " " ++ operator_name op
-        ++ (if boolean then codes " bool" else []) ++ matching_text m ++ codes " " ++ operand_text (level_of op - 1) right)
+print_step (Expr-F.Binary op boolean m left right) = (
+  level_of op,
+  operand_text (level_of op) left ++ codes " " ++ operator_name op
+      ++ (if boolean then codes " bool" else []) ++ matching_text m ++ codes " " ++ operand_text (level_of op - 1) right,
+)
 print_step (Expr-F.Call function args) = (0, function ++ codes "(" ++ listed_text args ++ codes ")")
 print_step (Expr-F.Aggregate op grouping param of) =
     (0, aggregate_name op ++ grouping_text grouping ++ codes "(" ++ listed_text (param ++ of) ++ codes ")")

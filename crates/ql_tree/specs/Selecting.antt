@@ -58,7 +58,7 @@ pub data OffsetOf : Option Span → List Word → Type 0 where
       → OffsetOf (Some (span_of milliseconds)) (word.Name keyword.Offset text ∷ word.Duration (span_of milliseconds) ∷ [])
   ahead : (text : List ℕ) (milliseconds : ℤ)
       → OffsetOf (Some (span_of (neg_ℤ milliseconds)))
-        (word.Name keyword.Offset text ∷ word.Minus ∷ word.Duration (span_of milliseconds) ∷ [])
+      (word.Name keyword.Offset text ∷ word.Minus ∷ word.Duration (span_of milliseconds) ∷ [])
 
 pub data SelectorOf : Expr → List Word → Type 0 where
   selector : (name : Option (List ℕ)) (ms : List Matcher) (range offset : Option Span) (ts us vs : List Word)

@@ -1,5 +1,6 @@
 -- What children are: their types, and the texts of strings.
-use Rattle.std.specs.Prelude.{ℕ, zero, suc, Bool, true, false, List, [], ◌∷◌, ◌&&◌}
+use Rattle.std.specs.Prelude.{ℕ, slice_get, Bool, true, false, List, [], ◌∷◌, ◌&&◌}
+use Rattle.std.specs.Option.{option_map_or}
 use Rattle.ql_tree.specs.declared.types.Shape.{Shape}
 use Rattle.ql_tree.specs.declared.types.Shape.TheVariants as shape
 use Rattle.ql_tree.specs.declared.types.ExprType.{ExprType}
@@ -36,7 +37,5 @@ text_of (shape.Str text) = text
 text_of _ = []
 
 -- the text of the child with that number
-unfoldable pub text_at : ℕ → List Shape → List ℕ
-text_at n [] = []
-text_at zero (s ∷ shapes) = text_of s
-text_at (suc n) (s ∷ shapes) = text_at n shapes
+abbrev pub text_at : ℕ → List Shape → List ℕ
+text_at number shapes = option_map_or text_of (slice_get shapes number) []

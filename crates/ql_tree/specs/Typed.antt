@@ -56,10 +56,14 @@ is_set Unless = true
 is_set Or = true
 is_set _ = false
 
+-- the label isn't among these
+abbrev pub is_missing : List (List ℕ) → List ℕ → Bool
+is_missing labels label = not (list_any (bytes_eq label) labels)
+
 -- no label stands both in `on` and in the list of the `group_` clause
 abbrev pub are_apart : Bool → List (List ℕ) → Option Side → Bool
 are_apart on labels None = true
-are_apart on labels (Some side) = not on || list_all (λ label. not (list_any (bytes_eq label) labels)) side.include
+are_apart on labels (Some side) = not on || list_all (is_missing labels) side.include
 
 abbrev pub has_side : Option Side → Bool
 has_side None = false
@@ -78,15 +82,21 @@ has_no_matching (Some m) = false
 abbrev pub takes_scalars : BinaryOp → Option Matching → Bool
 takes_scalars op m = not (is_set op) && has_no_matching m
 
+abbrev pub vector_if : Bool → Option Shape
+vector_if holds = if holds then Some shape.Vector else None
+
+-- a scalar and a vector, in either order
+abbrev pub one_scalar : List Shape → Bool
+one_scalar shapes = have_types shapes (Scalar ∷ Vector ∷ []) || have_types shapes (Vector ∷ Scalar ∷ [])
+
 -- arithmetic of two scalars is a scalar, with a vector a vector; so is a comparison, which needs `bool`
 -- between two scalars. `and`, `unless`, `or` and matching need two vectors.
 unfoldable pub binary_shape : BinaryOp → Bool → Option Matching → List Shape → Option Shape
 binary_shape op boolean m shapes =
     if have_types shapes (Scalar ∷ Scalar ∷ [])
     then (if takes_scalars op m && (boolean || not (is_comparison op)) then Some shape.Scalar else None)
-    else if have_types shapes (Scalar ∷ Vector ∷ []) || have_types shapes (Vector ∷ Scalar ∷ [])
-    then (if takes_scalars op m then Some shape.Vector else None)
-    else if have_types shapes (Vector ∷ Vector ∷ []) then (if may_match op m then Some shape.Vector else None) else None
+    else if one_scalar shapes then vector_if (takes_scalars op m)
+    else if have_types shapes (Vector ∷ Vector ∷ []) then vector_if (may_match op m) else None
 
 -- there is one operand on either side
 abbrev pub operands_shape : ℕ → ℕ → BinaryOp → Bool → Option Matching → List Shape → Option Shape
@@ -101,8 +111,7 @@ takes_parameter _ param = have_types param []
 
 -- an aggregate is of a vector
 unfoldable pub aggregate_shape : AggregateOp → List Shape → List Shape → Option Shape
-aggregate_shape op param of =
-    if have_types of (Vector ∷ []) && takes_parameter op param then Some shape.Vector else None
+aggregate_shape op param of = vector_if (have_types of (Vector ∷ []) && takes_parameter op param)
 
 -- the first children are its parameter
 abbrev pub split_shape : ℕ → AggregateOp → List Shape → Option Shape

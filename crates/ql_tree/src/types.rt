@@ -1,4 +1,7 @@
-use op_base::Text;
+ghost use Rattle.std.specs.Prelude.{◌≡◌};
+
+use op_base::{NoMemory, Text};
+use std::alloc::AllocError;
 
 /// The type of a PromQL expression.
 #[derive(Clone, Copy, Debug, PartialEq, Eq)]
@@ -16,4 +19,22 @@ pub enum Shape {
     Vector,
     Range,
     Str(Text),
+}
+
+/// Why a tree has no type: the path of child numbers, joined by `.`, to the first node in post-order
+/// that has none; or memory was refused.
+#[derive(Debug, PartialEq, Eq, Drop)]
+pub enum TypeFault {
+    IllTyped(Text),
+    NoMemory,
+}
+
+impl From<NoMemory> for TypeFault {
+    ghost use Rattle.ql_tree.specs.declared.types.TypeFault.TheVariants.{NoMemory as no_memory};
+
+    ghost from_gives = { λ _ e. e ≡ no_memory };
+
+    fn from(_refused: NoMemory) -> Self {
+        TypeFault::NoMemory
+    }
 }

@@ -9,20 +9,22 @@ loop-rest-preserved-in-Gap c =
     (omega arith, past_gap _ _ _ _ _ _ c.loop-rest.invariant.1 c.in-Gap.ensures.0 c.in-Gap.ensures.2 c.behind-rest.ensures.behind)
 
 pub loop-rest-preserved : goal.loop-rest-preserved
-loop-rest-preserved c =
-    (omega arith, past_token _ _ _ _ c.in-Token.kind c.in-Token.len _ _ c.loop-rest.invariant.1 c.in-Token.ensures.2 c.in-Token.ensures.3
-        c.in_ok-push-in-Token.ensures.ok c.behind-rest-in-Token.ensures.behind)
+loop-rest-preserved c = (
+  omega arith,
+  past_token _ _ _ _ c.in-Token.kind c.in-Token.len _ _ c.loop-rest.invariant.1 c.in-Token.ensures.2 c.in-Token.ensures.3
+      c.in_ok-push-in-Token.ensures.ok c.behind-rest-in-Token.ensures.behind,
+)
 
 pub returns-in-Bad-clause-bad_char : goal.returns-in-Bad-clause-bad_char
 returns-in-Bad-clause-bad_char c =
     λ place e. let same : c.loop-rest.place ≡ place = cc in
-        subst (λ k. Cut 0 c.args.text.now (Err k)) same
-            (bad_here _ _ _ _ c.loop-rest.invariant.1 c.loop-rest-test.true c.in-Bad.ensures.0 c.in-Bad.ensures.1)
+    subst (λ k. Cut 0 c.args.text.now (Err k)) same
+    (bad_here _ _ _ _ c.loop-rest.invariant.1 c.loop-rest-test.true c.in-Bad.ensures.0 c.in-Bad.ensures.1)
 
 pub returns-in-Bad-clause-no_tokens : goal.returns-in-Bad-clause-no_tokens
 returns-in-Bad-clause-no_tokens c =
     λ place found e good. no_tokens_where_bad c.args.text.now c.loop-rest.place found
-        (bad_here _ _ _ _ c.loop-rest.invariant.1 c.loop-rest-test.true c.in-Bad.ensures.0 c.in-Bad.ensures.1) good
+    (bad_here _ _ _ _ c.loop-rest.invariant.1 c.loop-rest-test.true c.in-Bad.ensures.0 c.in-Bad.ensures.1) good
 
 pub returns-clause-tokens : goal.returns-clause-tokens
 returns-clause-tokens c = whole_cut _ _ _ _ c.loop-rest.invariant.1 (omega arith)

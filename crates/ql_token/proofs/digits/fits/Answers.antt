@@ -6,7 +6,7 @@ use Rattle.ql_token.proofs.digits.fits.Goals as goal
 pub returns-then-value-gt-MOST : goal.returns-then-value-gt-MOST
 returns-then-value-gt-MOST c =
     sym (too_large c.args.digits.now c.loop-b.b-index c.loop-b.value c.digit.result (omega arith)
-        c.loop-b.invariant.0 c.digit.ensures (omega arith))
+    c.loop-b.invariant.0 c.digit.ensures (omega arith))
 
 pub loop-b-preserved : goal.loop-b-preserved
 loop-b-preserved c =

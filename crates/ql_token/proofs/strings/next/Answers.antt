@@ -9,9 +9,11 @@ pub returns-in-empty : goal.returns-in-empty
 returns-in-empty c = at_end c.args.quote c.args.bytes.now (omega arith)
 
 pub returns-in-Some : goal.returns-in-Some
-returns-in-Some c =
-    (c.in-Some.ensures.within.0, c.in-Some.ensures.within.1,
-        at_piece c.args.quote c.in-Some.n c.args.bytes.now (omega arith) c.if-b-quote.false (sym c.in-Some.ensures.piece) c.in-Some.ensures.within.0)
+returns-in-Some c = (
+  c.in-Some.ensures.within.0,
+  c.in-Some.ensures.within.1,
+  at_piece c.args.quote c.in-Some.n c.args.bytes.now (omega arith) c.if-b-quote.false (sym c.in-Some.ensures.piece) c.in-Some.ensures.within.0,
+)
 
 pub returns-in-None : goal.returns-in-None
 returns-in-None c = at_broken c.args.quote c.args.bytes.now (omega arith) c.if-b-quote.false (sym c.in-None.ensures.piece)
