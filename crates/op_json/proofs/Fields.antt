@@ -23,8 +23,8 @@ pub one_more : {X : Type 0} (f : X → List ℕ × Json) (ms : Members) (xs : Li
     → members_after ms (fields_of (map f (take (i + 1) xs))) ≡ put (f (get_or xs i d)).0 (data_of (f (get_or xs i d)).1) (members_after ms (fields_of (map f (take i xs))))
 one_more f ms xs i d h =
     ap (λ ys. members_after ms (fields_of (map f ys))) (take_more xs i d h)
-      ∙ ap (λ fs. members_after ms (fields_of fs)) (map-append f (take i xs) (get_or xs i d ∷ []))
-      ∙ after_append ms (map f (take i xs)) (f (get_or xs i d) ∷ [])
+    ∙ ap (λ fs. members_after ms (fields_of fs)) (map-append f (take i xs) (get_or xs i d ∷ []))
+    ∙ after_append ms (map f (take i xs)) (f (get_or xs i d) ∷ [])
 
 -- all fields were put
 pub all_put : {X : Type 0} (f : X → List ℕ × Json) (ms : Members) (xs : List X) (i : ℕ) → length xs ≤ i
@@ -38,4 +38,4 @@ pub put_next : {X : Type 0} (f : X → List ℕ × Json) (ms : Members) (xs : Li
     → new ≡ members_after ms (fields_of (map f (take (i + 1) xs)))
 put_next f ms xs i d old new name value h is so_far same_name same_value =
     is ∙ ap (λ n. put n value old) same_name ∙ ap (λ v. put (f (get_or xs i d)).0 v old) same_value
-      ∙ ap (put (f (get_or xs i d)).0 (data_of (f (get_or xs i d)).1)) so_far ∙ sym (one_more f ms xs i d h)
+    ∙ ap (put (f (get_or xs i d)).0 (data_of (f (get_or xs i d)).1)) so_far ∙ sym (one_more f ms xs i d h)

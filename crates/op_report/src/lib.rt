@@ -6,6 +6,8 @@
 
 mod answer;
 mod line;
+#[cfg(test)]
+mod tests;
 mod view;
 
 pub use answer::answers_well;
