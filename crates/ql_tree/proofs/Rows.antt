@@ -1,6 +1,7 @@
 -- Worked rows of the definitions.
-use Rattle.std.proofs.Common.{◌≡◌, ◌∷◌, [], Some, None, false, refl, pos, codes, lit<}
+use Rattle.std.proofs.Common.{◌≡◌, ◌∷◌, [], Some, None, false, refl, pos, negsuc, codes, lit<}
 use lib.Utf8.{encode}
+use Rattle.ql_tree.specs.Arithmetic.{arith_of}
 use Rattle.ql_tree.specs.Calls.{call_shape, parameters_of, label_join_shape}
 use Rattle.ql_tree.specs.Durations.{is_duration}
 use Rattle.ql_tree.specs.Enforced.{enforced_matchers, matcher_of}
@@ -14,6 +15,7 @@ use Rattle.ql_tree.specs.Tokens.{token_at, gap_at, numeric_kind, symbol_at, Cut,
 use Rattle.ql_tree.specs.Typed.{binary_shape}
 use Rattle.ql_tree.specs.Words.{keyword_of}
 use Rattle.ql_tree.specs.declared.token.TokenKind.TheVariants as kind
+use Rattle.ql_tree.specs.declared.tree.ArithOp.TheVariants as arith
 use Rattle.ql_tree.specs.declared.tree.BinaryOp.TheVariants as binary
 use Rattle.ql_tree.specs.declared.tree.Expr.TheVariants as expr
 use Rattle.ql_tree.specs.declared.types.Shape.TheVariants as shape
@@ -100,3 +102,19 @@ short_braces = refl
 
 no_braces : head_text (Some (codes "x")) [] ≡ codes "x"
 no_braces = refl
+
+cut_towards_zero : arith_of arith.Div (negsuc 6) (pos 2) ≡ Some (negsuc 2)
+unfolding arith_of
+cut_towards_zero = refl
+
+sign_of_the_dividend : arith_of arith.Rem (negsuc 6) (pos 2) ≡ Some (negsuc 0)
+unfolding arith_of
+sign_of_the_dividend = refl
+
+quotient_too_large : arith_of arith.Div (negsuc 9223372036854775807) (negsuc 0) ≡ Some (pos 9223372036854775807)
+unfolding arith_of
+quotient_too_large = refl
+
+zero_divisor : arith_of arith.Rem (pos 1) (pos 0) ≡ None
+unfolding arith_of
+zero_divisor = refl

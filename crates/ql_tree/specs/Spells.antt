@@ -23,13 +23,14 @@ use Rattle.ql_tree.specs.declared.word.Word.TheVariants as word
 abbrev pub Spelling : Type 1
 Spelling = Expr → List Word → Type 0
 
+abbrev pub is_open : Word → Bool
+is_open word.Open = true
+is_open _ = false
+
+-- the words begin with `(`
 abbrev pub begins_open : List Word → Bool
 begins_open [] = false
 begins_open (w ∷ ts) = is_open w
-  where
-    is_open : Word → Bool
-    is_open word.Open = true
-    is_open _ = false
 
 -- `bool` behind a comparison, or nothing
 pub data BoolOf (comparison : Bool) : Bool → List Word → Type 0 where

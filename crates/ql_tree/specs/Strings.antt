@@ -74,11 +74,11 @@ inside_from quote zero (b ∷ t) =
     if b == quote then Some ([], 1)
     else option_and_then (λ piece. option_map (behind_piece piece.0) (inside_from quote (piece.1 - 1) t)) (piece_at quote (b ∷ t))
 
+abbrev pub text_found : Option (List ℕ × ℕ) → List ℕ
+text_found None = []
+text_found (Some found) = found.0
+
 -- the text that a string with its quotes writes
 unfoldable pub string_value : List ℕ → List ℕ
 string_value [] = []
-string_value (quote ∷ t) = written (inside_from quote 0 t)
-  where
-    written : Option (List ℕ × ℕ) → List ℕ
-    written None = []
-    written (Some found) = found.0
+string_value (quote ∷ t) = text_found (inside_from quote 0 t)
