@@ -5,10 +5,9 @@ ghost use Rattle.cfg_types.specs.Selectors as spec;
 
 use crate::config::PlainSelector;
 use op_base::{MatchOp, Matcher, NoMemory, Text};
-use std::alloc::Global;
 
 /// The text of the selector: its name, then its matchers in braces where it has any.
-pub fn selector_text(alloc: Global, selector: &PlainSelector) -> Result<Text, NoMemory>
+pub fn selector_text(selector: &PlainSelector) -> Result<Text, NoMemory>
     ensures { IfOk result (λ text. text ≡ spec.selector_text selector.now) }
 {
     let mut text = selector.name.clone()?;

@@ -133,7 +133,7 @@ fn rule_values(alloc: Global, rules: &[Rule]) -> Result<Vec<Value>, NoMemory>
 fn rule_value(alloc: Global, rule: &Rule) -> Result<Value, NoMemory>
     ensures { IfOk result (λ value. shown.view value ≡ data_of (spec.rule_json rule.now)) }
 {
-    let expr = selector_text(alloc, &rule.expr)?;
+    let expr = selector_text(&rule.expr)?;
     let mut fields = Map::new(alloc);
     put_text(&mut fields, alloc, "expr", expr.as_str())?;
     put_text(&mut fields, alloc, "record", rule.name.as_str())?;

@@ -1,4 +1,4 @@
-ghost use Rattle.std.specs.Prelude.{◌≡◌, IfOk, OnOk, map, option_map, List, ◌++◌, ◌∷◌, []};
+ghost use Rattle.std.specs.Prelude.{◌≡◌, IfOk, OnOk, OnErr, map, option_map, List, ◌++◌, ◌∷◌, []};
 ghost use Rattle.serde_json.specs.View.{view, members_view};
 ghost use Rattle.serde_json.specs.Data.{put};
 ghost use Rattle.op_json.specs.Json as json;
@@ -23,8 +23,9 @@ pub fn put_field(
     name: &str,
     value: Value,
 ) -> Result<(), NoMemory>
-    ensures { OnOk result (members_view fields.new.entries
+    ensures ok { OnOk result (members_view fields.new.entries
         ≡ put name.now (view value) (members_view fields.old.entries)) }
+    ensures err { OnErr result (members_view fields.new.entries ≡ members_view fields.old.entries) }
 {
     serde_json::put(fields, alloc, name, value)?;
     Ok(())
@@ -32,7 +33,8 @@ pub fn put_field(
 
 /// Puts one more value at the end of an array.
 pub fn push_item(items: &mut Vec<Value>, value: Value) -> Result<(), NoMemory>
-    ensures { OnOk result (map view items.new.items ≡ map view items.old.items ++ view value ∷ []) }
+    ensures ok { OnOk result (map view items.new.items ≡ map view items.old.items ++ view value ∷ []) }
+    ensures err { OnErr result (map view items.new.items ≡ map view items.old.items) }
 {
     items.push(value)?;
     Ok(())
@@ -45,8 +47,9 @@ pub fn put_text(
     name: &str,
     text: &str,
 ) -> Result<(), NoMemory>
-    ensures { OnOk result (members_view fields.new.entries
+    ensures ok { OnOk result (members_view fields.new.entries
         ≡ put name.now (data_of (json.text text.now)) (members_view fields.old.entries)) }
+    ensures err { OnErr result (members_view fields.new.entries ≡ members_view fields.old.entries) }
 {
     let value = Value::String(String::from_str(alloc, text)?);
     put_field(fields, alloc, name, value)
@@ -59,8 +62,9 @@ pub fn put_text_if(
     name: &str,
     text: Option<&str>,
 ) -> Result<(), NoMemory>
-    ensures { OnOk result (members_view fields.new.entries
+    ensures ok { OnOk result (members_view fields.new.entries
         ≡ members_after (members_view fields.old.entries) (fields_of (given name.now (option_map (λ t. json.text t.now) text.entry)))) }
+    ensures err { OnErr result (members_view fields.new.entries ≡ members_view fields.old.entries) }
 {
     match text {
         Some(text) => put_text(fields, alloc, name, text),

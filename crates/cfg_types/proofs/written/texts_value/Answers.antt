@@ -9,7 +9,7 @@ pub loop-index-preserved : goal.loop-index-preserved
 loop-index-preserved c =
     let within : c.loop-index.index < length c.args.texts.now = omega (arith, c.loop-index-test.true, c.len-index-end.ensures.len) in
     put_next (λ entry. (entry.0, text entry.1)) no_members c.args.texts.now c.loop-index.index ([], []) _ _ _ _
-    within c.in_ok-put_text.ensures c.loop-index.invariant c.name_at.ensures (ap string c.value_at.ensures)
+    within c.in_ok-put_text.ensures.ok c.loop-index.invariant c.name_at.ensures (ap string c.value_at.ensures)
 
 pub returns : goal.returns
 returns c =
