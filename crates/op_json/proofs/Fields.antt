@@ -1,7 +1,7 @@
 -- Fields that are put in two runs, and lists of values as arrays.
 use Rattle.std.proofs.Common.{◌≡◌, ℕ, ◌+◌, ◌<◌, ◌≤◌, List, [], ◌∷◌, ◌++◌, map, take, get_or, length, refl, ap, sym, ◌∙◌}
 use Rattle.std.proofs.lemmas.List.{take_more, take_all, map-append}
-use Rattle.serde_json.specs.Data.{Data, Items, Members, put, item}
+use Rattle.serde_json.specs.Data.{Data, Members, put, item}
 use Rattle.serde_json.specs.View as shown
 use Rattle.op_json.specs.Json.{Json, data_of, items_of, members_after, fields_of, elements_of}
 

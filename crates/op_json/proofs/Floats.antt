@@ -2,7 +2,7 @@
 use Rattle.std.proofs.Common.{◌≡◌, ℕ, ℤ, pos, negsuc, Bool, true, false, ◌||◌, List, Ordering, Less, Equal, Greater, nat_cmp, true≢false, refl, ap, ◌∙◌}
 use Rattle.std.specs.Ordering.{match_ordering}
 use Rattle.std.specs.Cmp.Lexicographic.{slice_cmp}
-use Rattle.serde_json.specs.Data.{Data, Items, no_items, item, Members, no_members, member, put}
+use Rattle.serde_json.specs.Data.{Data, Members, no_members, member, put}
 use Rattle.serde_json.specs.Written.{has_float, items_have_float, members_have_float}
 use Rattle.op_json.specs.Json.{Json, null, flag, whole, text, array, object, Elements, none, element, Fields, no_fields, field, whole_data, data_of, items_of, members_after}
 

@@ -1,7 +1,7 @@
 -- JSON values without floats, and the text that is written for them: compact, with the fields of
 -- an object in the byte order of their names.
 use Rattle.std.specs.Prelude.{ℕ, ℤ, pos, negsuc, Bool, List, [], ◌∷◌, Option, Some, None}
-use Rattle.serde_json.specs.Data.{Data, Items, no_items, item, Members, no_members, member, unsigned, negative, put}
+use Rattle.serde_json.specs.Data.{Data, Items, no_items, item, Members, no_members, unsigned, negative, put}
 use Rattle.serde_json.specs.Data as data_kind
 use Rattle.serde_json.specs.Written.{compact_text}
 

@@ -4,7 +4,7 @@ use Rattle.std.specs.Io.KnownBytes.{Appends}
 use Rattle.op_edges.specs.Folders.{Folders}
 use Rattle.operator_cli.specs.declared.files.NamedFile.{NamedFile}
 use Rattle.operator_cli.specs.Folders.{manifests_in}
-use Rattle.operator_cli.specs.Readings.{Reading, reading_of, folder_of}
+use Rattle.operator_cli.specs.Readings.{reading_of, folder_of}
 
 -- P of the manifests, where the words have a reading and the folder tells its content
 abbrev pub WhereTold : List (List ℕ) → Option Folders → (List NamedFile → Type 0) → Type 0

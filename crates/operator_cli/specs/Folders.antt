@@ -1,5 +1,5 @@
 -- The manifests of a folder: its files whose names end in `.json`, in the order of their names.
-use Rattle.std.specs.Prelude.{ℕ, List, [], ◌∷◌, Bool, ◌*◌, length, nat_eq, sum_by, codes, if◌then◌else◌}
+use Rattle.std.specs.Prelude.{ℕ, List, [], ◌∷◌, Bool, length, nat_eq, sum_by, codes, if◌then◌else◌}
 use Rattle.std.specs.List.{flat_map, ends_with}
 use Rattle.op_edges.specs.Folders.{Folders, names_of, file_of}
 use Rattle.operator_cli.specs.declared.files.NamedFile.{NamedFile}

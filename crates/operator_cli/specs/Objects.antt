@@ -1,5 +1,5 @@
 -- The objects that are present: thin rules by namespace and name.
-use Rattle.std.specs.Prelude.{ℕ, List, [], ◌∷◌, Bool, true, false, Option, Some, None, ◌||◌, length, is_some, nat_lt, option_and_then, unwrap_or, if◌then◌else◌}
+use Rattle.std.specs.Prelude.{ℕ, List, [], ◌∷◌, Bool, false, ◌||◌, length, is_some, nat_lt, unwrap_or, if◌then◌else◌}
 use Rattle.std.specs.List.{flat_map}
 use Rattle.op_base.specs.Maps.{Map, value_at, values_of, with_inner}
 use Rattle.operator_cli.specs.declared.thin.ThinRule.{ThinRule}

@@ -1,5 +1,5 @@
 -- What the words after the program's name ask for.
-use Rattle.std.specs.Prelude.{ℕ, List, [], ◌∷◌, Bool, true, false, Option, Some, None, ◌==◌, ◌&&◌, codes, if◌then◌else◌}
+use Rattle.std.specs.Prelude.{ℕ, List, [], ◌∷◌, Bool, false, Option, Some, None, ◌==◌, codes, if◌then◌else◌}
 use Rattle.std.specs.Cmp.Lexicographic.{pointwise}
 use Rattle.operator_cli.specs.declared.words.Reading.{Reading as BorrowedReading}
 use Rattle.operator_cli.specs.declared.words.Reading.TheVariants as borrowed

@@ -1,10 +1,9 @@
 -- The run of the folder's events: what is reported of each, and which objects are present then.
-use Rattle.std.specs.Prelude.{◌≡◌, ℕ, List, [], ◌∷◌, ◌++◌, Bool, true, false, Option, Some, None, map, codes, if◌then◌else◌}
+use Rattle.std.specs.Prelude.{ℕ, List, [], ◌∷◌, ◌++◌, Bool, false, Some, None, codes, if◌then◌else◌}
 use Rattle.std.specs.List.{flat_map}
 use Rattle.op_base.specs.declared.kind.Kind.TheVariants.{PrometheusRule}
 use Rattle.op_base.specs.Keys.{key_text}
 use Rattle.op_report.specs.declared.view.Report.{Report}
-use Rattle.op_report.specs.declared.view.View.{View}
 use Rattle.op_report.specs.declared.view.View.TheVariants.{Own, BadFile, NotYetFile}
 use Rattle.op_report.specs.Lines.{NEWLINE, report_line}
 use Rattle.cfg_types.specs.Written.{config_text}

@@ -6,18 +6,25 @@ use op_base::{List, NoMemory, Steps};
 use op_edges::{Folder, MemFolder, MemSink, Sink, SureFolder, SureSink, SureSource};
 use std::alloc::Global;
 use std::marker::Brand;
+use std::process::Abort;
 use std::sync::ledger::{Blank, Ledger};
 use std::test::Fail;
 
 const ROOM: usize = 1 << 20;
 
-const CONFIG_HEAD: &str =
-    "{\"alertmanager\":null,\"prometheus\":{\"global\":{\"evaluation_interval\":\"30s\",\"external_labels\":{},\"scrape_interval\":\"30s\",\"scrape_timeout\":\"10s\"},\"scrape_configs\":[]},\"rules\":";
+const EMPTY: &str =
+    "{\"alertmanager\":null,\"prometheus\":{\"global\":{\"evaluation_interval\":\"30s\",\"external_labels\":{},\"scrape_interval\":\"30s\",\"scrape_timeout\":\"10s\"},\"scrape_configs\":[]},\"rules\":{}}\n";
 
 const RULE_OF_A: &str =
-    "{\"a/r\":{\"groups\":[{\"name\":\"g\",\"rules\":[{\"expr\":\"x{namespace=\\\"a\\\"}\",\"labels\":{\"namespace\":\"a\"},\"record\":\"a:x\"}]}]}}}\n";
+    "{\"alertmanager\":null,\"prometheus\":{\"global\":{\"evaluation_interval\":\"30s\",\"external_labels\":{},\"scrape_interval\":\"30s\",\"scrape_timeout\":\"10s\"},\"scrape_configs\":[]},\"rules\":{\"a/r\":{\"groups\":[{\"name\":\"g\",\"rules\":[{\"expr\":\"x{namespace=\\\"a\\\"}\",\"labels\":{\"namespace\":\"a\"},\"record\":\"a:x\"}]}]}}}\n";
+
+const RULES_OF_BOTH: &str =
+    "{\"alertmanager\":null,\"prometheus\":{\"global\":{\"evaluation_interval\":\"30s\",\"external_labels\":{},\"scrape_interval\":\"30s\",\"scrape_timeout\":\"10s\"},\"scrape_configs\":[]},\"rules\":{\"a/r\":{\"groups\":[{\"name\":\"g\",\"rules\":[{\"expr\":\"x{namespace=\\\"a\\\"}\",\"labels\":{\"namespace\":\"a\"},\"record\":\"a:x\"}]}]},\"b/r\":{\"groups\":[{\"name\":\"g\",\"rules\":[{\"expr\":\"x{namespace=\\\"b\\\"}\",\"labels\":{\"namespace\":\"b\"},\"record\":\"a:x\"}]}]}}}\n";
 
 const ADMITTED: &str = "a\t{\"also\":[],\"answer\":\"Admitted\",\"put\":\"PrometheusRule/a/r\"}\n";
+
+const USAGE: &str =
+    "usage: operator compile DIR [--part PART] | apply DIR [--each] [--part PART] | run DIR\n";
 
 /// A PrometheusRule manifest with one recording rule.
 fn manifest(alloc: Global, namespace: &str, name: &str, expr: &str) -> Result<List<u8>, NoMemory> {
@@ -92,61 +99,73 @@ fn counted<F: Folder, O: Sink, E: Sink, L: Ledger>(
     operate(alloc, words, folder, &mut input, out, err, &mut steps)
 }
 
-/// Compiles the folder `d` into `out` and `err`, which have ample room.
-fn compiled<F: Folder>(
-    alloc: Global,
-    folder: &mut F,
-) -> Result<(Status, MemSink, MemSink), NoMemory> {
-    let mut out = sink(alloc, ROOM, &[])?;
-    let mut err = sink(alloc, ROOM, &[])?;
-    let status = run_over(alloc, &["compile", "d"], folder, &mut out, &mut err)?;
-    Ok((status, out, err))
-}
-
 fn is_front(part: &[u8], whole: &str) -> bool {
     whole.as_bytes().starts_with(part)
 }
 
+/// What a run of `operate` should write.
+#[derive(Clone, Copy)]
+struct Wanted {
+    status: Status,
+    out: &'static str,
+    err: &'static str,
+}
+
+fn want_of(status: Status, out: &'static str, err: &'static str) -> Wanted {
+    Wanted { status, out, err }
+}
+
+/// Compiles the folder `d` with ample room, and compares what is written.
+fn compiles(
+    rt: &impl Abort,
+    alloc: Global,
+    manifests: &mut MemFolder,
+    want: Wanted,
+) -> Result<(), NoMemory> {
+    let mut out = sink(alloc, ROOM, &[])?;
+    let mut err = sink(alloc, ROOM, &[])?;
+    let status = run_over(alloc, &["compile", "d"], manifests, &mut out, &mut err)?;
+    assert!(rt; status == want.status, "the status");
+    assert!(rt; out.taken() == want.out.as_bytes(), "the configuration");
+    assert!(rt; err.taken() == want.err.as_bytes(), "the reports");
+    Ok(())
+}
+
 #[test]
-fn compiles_folders(rt: HostRuntime) -> Result<(), Fail> {
+fn the_one_rule(rt: HostRuntime) -> Result<(), Fail> {
     let alloc = rt.alloc();
-    let one = [("r.json", "a", "r", "x")];
-    let twice = [
-        ("1.json", "a", "r", "y"),
-        ("2.json", "a", "r", "x"),
-        ("no.txt", "b", "r", "x"),
-    ];
-    let other_expr = [("r.json", "a", "r", "sum(x)")];
-    let head = CONFIG_HEAD;
-    let rule = RULE_OF_A;
-    let line = ADMITTED;
-    let cases: [(&[(&str, &str, &str, &str)], Status, String, String); 3] = [
-        (
-            &one,
-            Status::Done,
-            format!(in alloc; "{head}{rule}")?,
-            format!(in alloc; "{line}")?,
-        ),
-        (
-            &twice,
-            Status::Done,
-            format!(in alloc; "{head}{rule}")?,
-            format!(in alloc; "{line}{line}")?,
-        ),
-        (
-            &other_expr,
-            Status::Refused,
-            format!(in alloc; "{head}{{}}}}\n")?,
-            format!(in alloc; "-\t{{\"bad\":\"NotYet\",\"file\":\"r.json\",\"item\":0}}\n")?,
-        ),
-    ];
-    for (rules, status, out, err) in cases.iter() {
-        let mut manifests = folder(alloc, rules)?;
-        let (got, on_out, on_err) = compiled(alloc, &mut manifests)?;
-        assert_eq!(rt; got, *status, "the status of {out}");
-        assert_eq!(rt; on_out.taken(), out.as_bytes(), "what is written for {out}");
-        assert_eq!(rt; on_err.taken(), err.as_bytes(), "the reports of {out}");
-    }
+    let mut manifests = folder(alloc, &[("r.json", "a", "r", "x")])?;
+    let want = want_of(Status::Done, RULE_OF_A, ADMITTED);
+    compiles(&rt, alloc, &mut manifests, want)?;
+    Ok(())
+}
+
+#[test]
+fn an_expression_that_is_not_read_yet(rt: HostRuntime) -> Result<(), Fail> {
+    let alloc = rt.alloc();
+    let mut manifests = folder(alloc, &[("r.json", "a", "r", "sum(x)")])?;
+    let want = want_of(
+        Status::Refused,
+        EMPTY,
+        "-\t{\"bad\":\"NotYet\",\"file\":\"r.json\",\"item\":0}\n",
+    );
+    compiles(&rt, alloc, &mut manifests, want)?;
+    Ok(())
+}
+
+#[test]
+fn two_files_with_one_key(rt: HostRuntime) -> Result<(), Fail> {
+    let alloc = rt.alloc();
+    let mut manifests = folder(
+        alloc,
+        &[("1.json", "a", "r", "y"), ("2.json", "a", "r", "x")],
+    )?;
+    let want = want_of(
+        Status::Done,
+        RULE_OF_A,
+        "a\t{\"also\":[],\"answer\":\"Admitted\",\"put\":\"PrometheusRule/a/r\"}\na\t{\"also\":[],\"answer\":\"Admitted\",\"put\":\"PrometheusRule/a/r\"}\n",
+    );
+    compiles(&rt, alloc, &mut manifests, want)?;
     Ok(())
 }
 
@@ -157,17 +176,12 @@ fn two_tenants_of_the_same_names(rt: HostRuntime) -> Result<(), Fail> {
         alloc,
         &[("1.json", "b", "r", "x"), ("2.json", "a", "r", "x")],
     )?;
-    let (status, out, err) = compiled(alloc, &mut manifests)?;
-    assert_eq!(rt; status, Status::Done);
-    assert_eq!(rt;
-        err.taken(),
-        b"b\t{\"also\":[],\"answer\":\"Admitted\",\"put\":\"PrometheusRule/b/r\"}\na\t{\"also\":[],\"answer\":\"Admitted\",\"put\":\"PrometheusRule/a/r\"}\n".as_slice()
+    let want = want_of(
+        Status::Done,
+        RULES_OF_BOTH,
+        "b\t{\"also\":[],\"answer\":\"Admitted\",\"put\":\"PrometheusRule/b/r\"}\na\t{\"also\":[],\"answer\":\"Admitted\",\"put\":\"PrometheusRule/a/r\"}\n",
     );
-    let head = CONFIG_HEAD;
-    let want = format!(in alloc;
-        "{head}{{\"a/r\":{{\"groups\":[{{\"name\":\"g\",\"rules\":[{{\"expr\":\"x{{namespace=\\\"a\\\"}}\",\"labels\":{{\"namespace\":\"a\"}},\"record\":\"a:x\"}}]}}]}},\"b/r\":{{\"groups\":[{{\"name\":\"g\",\"rules\":[{{\"expr\":\"x{{namespace=\\\"b\\\"}}\",\"labels\":{{\"namespace\":\"b\"}},\"record\":\"a:x\"}}]}}]}}}}}}\n"
-    )?;
-    assert_eq!(rt; out.taken(), want.as_bytes());
+    compiles(&rt, alloc, &mut manifests, want)?;
     Ok(())
 }
 
@@ -179,136 +193,12 @@ fn a_broken_file_between_good_ones(rt: HostRuntime) -> Result<(), Fail> {
         &[("1.json", "a", "r", "y"), ("3.json", "a", "r", "x")],
     )?;
     manifests.put("d", "2.json", bytes_of(alloc, "{\"put\":")?)?;
-    let (status, out, err) = compiled(alloc, &mut manifests)?;
-    assert_eq!(rt; status, Status::Refused);
-    let line = ADMITTED;
-    let want = format!(in alloc;
-        "{line}-\t{{\"bad\":\"S1\",\"file\":\"2.json\",\"item\":0,\"path\":\"\"}}\n{line}"
-    )?;
-    assert_eq!(rt; err.taken(), want.as_bytes());
-    let head = CONFIG_HEAD;
-    let rule = RULE_OF_A;
-    let config = format!(in alloc; "{head}{rule}")?;
-    assert_eq!(rt; out.taken(), config.as_bytes());
-    Ok(())
-}
-
-#[test]
-fn words_without_a_reading_touch_nothing(rt: HostRuntime) -> Result<(), Fail> {
-    let alloc = rt.alloc();
-    let usage =
-        b"usage: operator compile DIR [--part PART] | apply DIR [--each] [--part PART] | run DIR\n";
-    let cases: [&[&str]; 4] = [&[], &["compile"], &["compile", "d", "e"], &["compile", "-"]];
-    for words in cases {
-        let mut manifests = MemFolder::new(alloc, calls(alloc, &[1, 2, 3])?);
-        let mut out = sink(alloc, ROOM, &[])?;
-        let mut err = sink(alloc, ROOM, &[])?;
-        let status = run_over(alloc, words, &mut manifests, &mut out, &mut err)?;
-        assert_eq!(rt; status, Status::Usage);
-        assert_eq!(rt; out.taken().len(), 0);
-        assert_eq!(rt; err.taken(), usage.as_slice());
-    }
-    Ok(())
-}
-
-#[test]
-fn a_folder_that_fails(rt: HostRuntime) -> Result<(), Fail> {
-    let alloc = rt.alloc();
-    for call in [1, 2] {
-        let mut manifests = MemFolder::new(alloc, calls(alloc, &[call])?);
-        put_rule(alloc, &mut manifests, "r.json", "a", "r", "x")?;
-        let (status, out, err) = compiled(alloc, &mut manifests)?;
-        assert_eq!(rt; status, Status::FolderFault);
-        assert_eq!(rt; out.taken().len(), 0);
-        assert_eq!(rt; err.taken(), b"fault: folder\n".as_slice());
-    }
-    Ok(())
-}
-
-#[test]
-fn sinks_that_fail(rt: HostRuntime) -> Result<(), Fail> {
-    let alloc = rt.alloc();
-    let head = CONFIG_HEAD;
-    let rule = RULE_OF_A;
-    let config = format!(in alloc; "{head}{rule}")?;
-    // Room of `out`, calls of `out` and of `err` that fail, and what `err` takes.
-    let cases: [(usize, &[u64], &[u64], &str); 3] = [
-        (
-            ROOM,
-            &[1],
-            &[],
-            "a\t{\"also\":[],\"answer\":\"Admitted\",\"put\":\"PrometheusRule/a/r\"}\nfault: output\n",
-        ),
-        (
-            10,
-            &[],
-            &[],
-            "a\t{\"also\":[],\"answer\":\"Admitted\",\"put\":\"PrometheusRule/a/r\"}\nfault: output\n",
-        ),
-        (
-            ROOM,
-            &[1],
-            &[2],
-            "a\t{\"also\":[],\"answer\":\"Admitted\",\"put\":\"PrometheusRule/a/r\"}\n",
-        ),
-    ];
-    for (room, out_fails, err_fails, on_err) in cases {
-        let mut manifests = folder(alloc, &[("r.json", "a", "r", "x")])?;
-        let mut out = sink(alloc, room, out_fails)?;
-        let mut err = sink(alloc, ROOM, err_fails)?;
-        let status = run_over(alloc, &["compile", "d"], &mut manifests, &mut out, &mut err)?;
-        assert_eq!(rt; status, Status::OutputFault);
-        assert_eq!(rt; err.taken(), on_err.as_bytes());
-        assert!(rt;
-            is_front(out.taken(), config.as_str()),
-            "a prefix of the configuration"
-        );
-    }
-    Ok(())
-}
-
-#[test]
-fn reports_that_fail(rt: HostRuntime) -> Result<(), Fail> {
-    let alloc = rt.alloc();
-    // Calls of `err` that fail, and what it takes: nothing is written to `out`.
-    let cases: [(&[u64], &str); 3] = [
-        (&[1], "fault: output\n"),
-        (
-            &[2],
-            "a\t{\"also\":[],\"answer\":\"Admitted\",\"put\":\"PrometheusRule/a/r\"}\nfault: output\n",
-        ),
-        (&[1, 2], ""),
-    ];
-    for (fails, on_err) in cases {
-        let mut manifests = folder(
-            alloc,
-            &[("1.json", "a", "r", "x"), ("2.json", "a", "s", "x")],
-        )?;
-        let mut out = sink(alloc, ROOM, &[])?;
-        let mut err = sink(alloc, ROOM, fails)?;
-        let status = run_over(alloc, &["compile", "d"], &mut manifests, &mut out, &mut err)?;
-        assert_eq!(rt; status, Status::OutputFault);
-        assert_eq!(rt; err.taken(), on_err.as_bytes());
-        assert_eq!(rt; out.taken().len(), 0);
-    }
-    Ok(())
-}
-
-#[test]
-fn a_status_text_that_is_not_taken(rt: HostRuntime) -> Result<(), Fail> {
-    let alloc = rt.alloc();
-    let cases: [(&[&str], Status); 2] = [
-        (&["compile", "d"], Status::FolderFault),
-        (&["compile"], Status::Usage),
-    ];
-    for (words, want) in cases {
-        let mut manifests = MemFolder::new(alloc, calls(alloc, &[1])?);
-        let mut out = sink(alloc, ROOM, &[])?;
-        let mut err = sink(alloc, ROOM, &[1])?;
-        let status = run_over(alloc, words, &mut manifests, &mut out, &mut err)?;
-        assert_eq!(rt; status, want);
-        assert_eq!(rt; err.taken().len(), 0);
-    }
+    let want = want_of(
+        Status::Refused,
+        RULE_OF_A,
+        "a\t{\"also\":[],\"answer\":\"Admitted\",\"put\":\"PrometheusRule/a/r\"}\n-\t{\"bad\":\"S1\",\"file\":\"2.json\",\"item\":0,\"path\":\"\"}\na\t{\"also\":[],\"answer\":\"Admitted\",\"put\":\"PrometheusRule/a/r\"}\n",
+    );
+    compiles(&rt, alloc, &mut manifests, want)?;
     Ok(())
 }
 
@@ -316,15 +206,178 @@ fn a_status_text_that_is_not_taken(rt: HostRuntime) -> Result<(), Fail> {
 fn more_bytes_than_are_read(rt: HostRuntime) -> Result<(), Fail> {
     let alloc = rt.alloc();
     let mut manifests = MemFolder::new(alloc, List::new(alloc));
-    manifests.put(
-        "d",
-        "x.json",
-        List::from_vec(vec![in alloc; b' '; 67_108_865]?),
+    manifests.put("d", "x.json", blanks(alloc)?)?;
+    let want = want_of(Status::InputLimit, "", "limit: input\n");
+    compiles(&rt, alloc, &mut manifests, want)?;
+    Ok(())
+}
+
+fn blanks(alloc: Global) -> Result<List<u8>, NoMemory> {
+    Ok(List::from_vec(vec![in alloc; b' '; 67_108_865]?))
+}
+
+/// Runs `operate` over a folder and sinks that fail at the calls that are listed, and compares the
+/// status and what `err` takes. What `out` takes is a prefix of the configuration of one rule.
+fn ends_with(
+    rt: &impl Abort,
+    alloc: Global,
+    words: &[&str],
+    manifests: &mut MemFolder,
+    mut out: MemSink,
+    mut err: MemSink,
+    want: Wanted,
+) -> Result<usize, NoMemory> {
+    let status = run_over(alloc, words, manifests, &mut out, &mut err)?;
+    assert!(rt; status == want.status, "the status");
+    assert!(rt;
+        err.taken() == want.err.as_bytes(),
+        "what standard error takes"
+    );
+    assert!(rt;
+        is_front(out.taken(), want.out),
+        "a prefix of the configuration"
+    );
+    Ok(out.taken().len())
+}
+
+#[test]
+fn words_without_a_reading_touch_nothing(rt: HostRuntime) -> Result<(), Fail> {
+    let alloc = rt.alloc();
+    let mut manifests = MemFolder::new(alloc, calls(alloc, &[1, 2, 3])?);
+    let want = want_of(Status::Usage, "", USAGE);
+    let out = sink(alloc, ROOM, &[])?;
+    let err = sink(alloc, ROOM, &[])?;
+    let taken = ends_with(
+        &rt,
+        alloc,
+        &["compile", "d", "e"],
+        &mut manifests,
+        out,
+        err,
+        want,
     )?;
-    let (status, out, err) = compiled(alloc, &mut manifests)?;
-    assert_eq!(rt; status, Status::InputLimit);
-    assert_eq!(rt; out.taken().len(), 0);
-    assert_eq!(rt; err.taken(), b"limit: input\n".as_slice());
+    assert_eq!(rt; taken, 0);
+    Ok(())
+}
+
+#[test]
+fn a_listing_that_fails(rt: HostRuntime) -> Result<(), Fail> {
+    let alloc = rt.alloc();
+    let mut manifests = MemFolder::new(alloc, calls(alloc, &[1])?);
+    let want = want_of(Status::FolderFault, "", "fault: folder\n");
+    compiles(&rt, alloc, &mut manifests, want)?;
+    Ok(())
+}
+
+#[test]
+fn a_status_text_that_is_not_taken(rt: HostRuntime) -> Result<(), Fail> {
+    let alloc = rt.alloc();
+    let mut manifests = MemFolder::new(alloc, calls(alloc, &[1])?);
+    let want = want_of(Status::FolderFault, "", "");
+    let out = sink(alloc, ROOM, &[])?;
+    let err = sink(alloc, ROOM, &[1])?;
+    ends_with(
+        &rt,
+        alloc,
+        &["compile", "d"],
+        &mut manifests,
+        out,
+        err,
+        want,
+    )?;
+    Ok(())
+}
+
+#[test]
+fn an_output_that_fails_at_its_first_call(rt: HostRuntime) -> Result<(), Fail> {
+    let alloc = rt.alloc();
+    let mut manifests = folder(alloc, &[("r.json", "a", "r", "x")])?;
+    let want = want_of(
+        Status::OutputFault,
+        RULE_OF_A,
+        "a\t{\"also\":[],\"answer\":\"Admitted\",\"put\":\"PrometheusRule/a/r\"}\nfault: output\n",
+    );
+    let out = sink(alloc, ROOM, &[1])?;
+    let err = sink(alloc, ROOM, &[])?;
+    let taken = ends_with(
+        &rt,
+        alloc,
+        &["compile", "d"],
+        &mut manifests,
+        out,
+        err,
+        want,
+    )?;
+    assert_eq!(rt; taken, 0);
+    Ok(())
+}
+
+#[test]
+fn an_output_with_too_little_room(rt: HostRuntime) -> Result<(), Fail> {
+    let alloc = rt.alloc();
+    let mut manifests = folder(alloc, &[("r.json", "a", "r", "x")])?;
+    let want = want_of(
+        Status::OutputFault,
+        RULE_OF_A,
+        "a\t{\"also\":[],\"answer\":\"Admitted\",\"put\":\"PrometheusRule/a/r\"}\nfault: output\n",
+    );
+    let out = sink(alloc, 10, &[])?;
+    let err = sink(alloc, ROOM, &[])?;
+    let taken = ends_with(
+        &rt,
+        alloc,
+        &["compile", "d"],
+        &mut manifests,
+        out,
+        err,
+        want,
+    )?;
+    assert_eq!(rt; taken, 10);
+    Ok(())
+}
+
+#[test]
+fn reports_that_fail_at_the_first_call(rt: HostRuntime) -> Result<(), Fail> {
+    let alloc = rt.alloc();
+    let mut manifests = folder(alloc, &[("r.json", "a", "r", "x")])?;
+    let want = want_of(Status::OutputFault, "", "fault: output\n");
+    let out = sink(alloc, ROOM, &[])?;
+    let err = sink(alloc, ROOM, &[1])?;
+    ends_with(
+        &rt,
+        alloc,
+        &["compile", "d"],
+        &mut manifests,
+        out,
+        err,
+        want,
+    )?;
+    Ok(())
+}
+
+#[test]
+fn reports_that_fail_at_the_second_call(rt: HostRuntime) -> Result<(), Fail> {
+    let alloc = rt.alloc();
+    let mut manifests = folder(
+        alloc,
+        &[("1.json", "a", "r", "x"), ("2.json", "a", "s", "x")],
+    )?;
+    let want = want_of(
+        Status::OutputFault,
+        "",
+        "a\t{\"also\":[],\"answer\":\"Admitted\",\"put\":\"PrometheusRule/a/r\"}\nfault: output\n",
+    );
+    let out = sink(alloc, ROOM, &[])?;
+    let err = sink(alloc, ROOM, &[2])?;
+    ends_with(
+        &rt,
+        alloc,
+        &["compile", "d"],
+        &mut manifests,
+        out,
+        err,
+        want,
+    )?;
     Ok(())
 }
 
@@ -344,21 +397,29 @@ fn put_numbered(alloc: Global, manifests: &mut MemFolder, number: u64) -> Result
     put_rule(alloc, manifests, file.as_str(), "a", name.as_str(), "x")
 }
 
+/// Compiles `count` rules and one that is put again: the status, and whether the reports end so.
+fn compiles_many(alloc: Global, count: u64, end: &str) -> Result<(Status, bool), NoMemory> {
+    let mut manifests = many_rules(alloc, count)?;
+    let mut out = SureSink::new();
+    let mut err = sink(alloc, ROOM, &[])?;
+    let status = run_over(alloc, &["compile", "d"], &mut manifests, &mut out, &mut err)?;
+    Ok((status, err.taken().ends_with(end.as_bytes())))
+}
+
 #[test]
 fn a_full_namespace(rt: HostRuntime) -> Result<(), Fail> {
     let alloc = rt.alloc();
-    let mut full = many_rules(alloc, 1000)?;
-    let (status, _, err) = compiled(alloc, &mut full)?;
-    assert_eq!(rt; status, Status::Done);
-    assert!(rt; err.taken().ends_with(b"\"put\":\"PrometheusRule/a/r0\"}\n"));
-    let mut over = many_rules(alloc, 1001)?;
-    let (status, _, err) = compiled(alloc, &mut over)?;
-    assert_eq!(rt; status, Status::Refused);
+    let (status, ends) = compiles_many(alloc, 1000, "\"put\":\"PrometheusRule/a/r0\"}\n")?;
     assert!(rt;
-        err.taken().ends_with(
-            b"-\t{\"bad\":\"NotYet\",\"file\":\"1000.json\",\"item\":0}\na\t{\"also\":[],\"answer\":\"Admitted\",\"put\":\"PrometheusRule/a/r0\"}\n"
-        )
+        status == Status::Done && ends,
+        "a thousand objects, and one put again"
     );
+    let (status, ends) = compiles_many(
+        alloc,
+        1001,
+        "-\t{\"bad\":\"NotYet\",\"file\":\"1000.json\",\"item\":0}\na\t{\"also\":[],\"answer\":\"Admitted\",\"put\":\"PrometheusRule/a/r0\"}\n",
+    )?;
+    assert!(rt; status == Status::Refused && ends, "one object too many");
     Ok(())
 }
 
@@ -370,6 +431,6 @@ fn sure_forms_are_done(rt: HostRuntime) -> Result<(), Fail> {
     let mut out = SureSink::new();
     let mut err = SureSink::new();
     let status = run_over(alloc, &["compile", "d"], &mut manifests, &mut out, &mut err)?;
-    assert_eq!(rt; status, Status::Done);
+    assert!(rt; status == Status::Done);
     Ok(())
 }

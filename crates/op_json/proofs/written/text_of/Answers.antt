@@ -1,4 +1,4 @@
-use Rattle.std.proofs.Common.{◌∙◌, sym, ap}
+use Rattle.std.proofs.Common.{◌∙◌, ap}
 use Rattle.serde_json.specs.Written.{has_float, compact_text}
 use Rattle.op_json.proofs.Floats.{no_float}
 use Rattle.op_json.proofs.written.text_of.Goals as goal

@@ -1,4 +1,4 @@
-use Rattle.std.proofs.Common.{◌≡◌, ℕ, Bool, List, [], ◌∷◌, Bor, refl, sym, ap, ◌∙◌, ◌||◌, map}
+use Rattle.std.proofs.Common.{◌≡◌, Bool, List, [], ◌∷◌, refl, sym, ap, ◌∙◌, ◌||◌, map}
 use Rattle.std.specs.List.{list_any}
 use Rattle.operator_cli.specs.ThinRules.{is_text}
 use Rattle.operator_cli.proofs.thin.may_stand.Goals as goal
