@@ -1,11 +1,10 @@
 -- The first conflict of a tree is that of its first child which has one.
-use Rattle.std.proofs.Common.{◌≡◌, ℕ, ◌+◌, ◌<◌, Bool, true, List, [], ◌∷◌, ◌++◌, Option, Some, None, map, length, take, drop, get_or, refl, ap, sym, ◌∙◌, cond}
+use Rattle.std.proofs.Common.{◌≡◌, ℕ, ◌+◌, ◌<◌, Bool, true, List, [], ◌∷◌, ◌++◌, Option, Some, None, map, length, take, drop, get_or, refl, ap, sym, ◌∙◌}
 use Rattle.std.specs.List.{filter, flat_map}
 use Rattle.std.proofs.lemmas.List.{take_more, take-append-drop, append-nil}
 use Rattle.std.proofs.lemmas.List.Elements.{filter-append, filter_more}
 use Rattle.std.proofs.lemmas.Grind.{flat_map-append}
 use Rattle.op_base.specs.declared.matcher.Matcher.{Matcher}
-use Rattle.ql_tree.specs.Children.{children_of}
 use Rattle.ql_tree.specs.Enforced.{conflicts, first_of, first_conflict, matchers_of, matchers_step}
 use Rattle.ql_tree.specs.declared.tree.Expr.{Expr}
 use Rattle.ql_tree.specs.declared.tree.Expr.TheOpen.{Expr-F}
