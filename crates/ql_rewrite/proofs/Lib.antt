@@ -1,0 +1,3 @@
+mod ConflictLemmas
+mod EscapeLemmas
+mod PrintLemmas

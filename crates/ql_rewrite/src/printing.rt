@@ -1,0 +1,174 @@
+ghost use Rattle.std.specs.Prelude.{◌≡◌, ◌++◌, IfOk, OnOk, codes, map};
+ghost use Rattle.std.specs.Fmt.{signed_decimal};
+ghost use Rattle.std.specs.List.{flat_map};
+ghost use Rattle.ql_tree.specs.Printed as spec;
+
+use crate::clauses::{aggregate_name, level_of, push_grouping, push_operator};
+use crate::selectors::{push_quoted, push_selector};
+use op_base::{NoMemory, Text};
+use ql_tree::Expr;
+use std::alloc::Global;
+
+/// The text of the tree: single spaces, lower-case operators, and no bracket that isn't needed.
+#[tactic(auto, unfolding(ql_tree::specs::Printed::printed))]
+pub fn print(alloc: Global, expr: &Expr) -> Result<Text, NoMemory>
+    ensures { IfOk result (λ text. text ≡ spec.printed expr.now) }
+{
+    let mut text = Text::new(alloc);
+    push_tree(alloc, &mut text, expr)?;
+    Ok(text)
+}
+
+#[cycle(printing)]
+#[tactic(auto, using(crate::proofs::PrintLemmas::at_select, crate::proofs::PrintLemmas::at_sign, crate::proofs::PrintLemmas::at_operator, crate::proofs::PrintLemmas::at_call, crate::proofs::PrintLemmas::at_aggregate))]
+fn push_tree(alloc: Global, text: &mut Text, expr: &Expr) -> Result<(), NoMemory>
+    ensures { OnOk result (text.new ≡ text.old ++ (spec.piece_of expr.now).1) }
+{
+    match expr {
+        Expr::Number(n) => push_number(alloc, text, *n),
+        Expr::Str(value) => push_quoted(text, value.as_str()),
+        Expr::Select {
+            name,
+            matchers,
+            range,
+            offset,
+        } => push_selector(alloc, text, name, matchers.as_slice(), range, offset),
+        Expr::Unary { minus, of } => {
+            text.push_str(if *minus { "-" } else { "+" })?;
+            push_operand(alloc, text, 0, of.as_slice())
+        }
+        Expr::Binary {
+            op,
+            boolean,
+            matching,
+            left,
+            right,
+        } => {
+            let level = level_of(*op);
+            push_operand(alloc, text, level, left.as_slice())?;
+            push_operator(text, *op, *boolean, matching)?;
+            push_operand(alloc, text, level - 1, right.as_slice())
+        }
+        Expr::Call { function, args } => {
+            text.push_str(function.as_str())?;
+            text.push_str("(")?;
+            push_listed(alloc, text, args.as_slice())?;
+            text.push_str(")")
+        }
+        Expr::Aggregate {
+            op,
+            grouping,
+            param,
+            of,
+        } => {
+            text.push_str(aggregate_name(*op))?;
+            push_grouping(text, grouping)?;
+            text.push_str("(")?;
+            push_both(alloc, text, param.as_slice(), of.as_slice())?;
+            text.push_str(")")
+        }
+    }
+}
+
+/// The operand at a place where the level may be `loosest` at most.
+#[cycle(printing)]
+fn push_operand(
+    alloc: Global,
+    text: &mut Text,
+    loosest: usize,
+    exprs: &[Expr],
+) -> Result<(), NoMemory>
+    ensures { OnOk result (text.new ≡ text.old ++ spec.operand_text loosest (map spec.piece_of exprs.now)) }
+{
+    match exprs {
+        [] => Ok(()),
+        [expr, ..] => push_placed(alloc, text, loosest, expr),
+    }
+}
+
+/// The tree's text, in brackets where its level is looser.
+#[cycle(printing)]
+#[tactic(auto, unfolding(ql_tree::specs::Printed::placed))]
+fn push_placed(alloc: Global, text: &mut Text, loosest: usize, expr: &Expr) -> Result<(), NoMemory>
+    ensures { OnOk result (text.new ≡ text.old ++ spec.placed loosest (spec.piece_of expr.now)) }
+{
+    if loosest < level(expr) {
+        text.push_str("(")?;
+        push_tree(alloc, text, expr)?;
+        text.push_str(")")
+    } else {
+        push_tree(alloc, text, expr)
+    }
+}
+
+/// The trees' texts with a comma and a space between each two.
+#[cycle(printing)]
+fn push_listed(alloc: Global, text: &mut Text, exprs: &[Expr]) -> Result<(), NoMemory>
+    ensures { OnOk result (text.new ≡ text.old ++ spec.listed_text (map spec.piece_of exprs.now)) }
+{
+    match exprs {
+        [] => Ok(()),
+        [first, rest @ ..] => {
+            push_tree(alloc, text, first)?;
+            push_more(alloc, text, rest)
+        }
+    }
+}
+
+/// The same of two lists, one behind the other.
+#[cycle(printing)]
+#[tactic(auto, using(crate::proofs::PrintLemmas::listed_both))]
+fn push_both(
+    alloc: Global,
+    text: &mut Text,
+    first: &[Expr],
+    second: &[Expr],
+) -> Result<(), NoMemory>
+    ensures { OnOk result (text.new ≡ text.old
+        ++ spec.listed_text (map spec.piece_of first.now ++ map spec.piece_of second.now)) }
+{
+    match first {
+        [] => push_listed(alloc, text, second),
+        [head, rest @ ..] => {
+            push_tree(alloc, text, head)?;
+            push_more(alloc, text, rest)?;
+            push_more(alloc, text, second)
+        }
+    }
+}
+
+/// The trees' texts, each behind a comma and a space.
+#[cycle(printing)]
+fn push_more(alloc: Global, text: &mut Text, exprs: &[Expr]) -> Result<(), NoMemory>
+    ensures { OnOk result (text.new ≡ text.old
+        ++ flat_map (λ piece. codes ", " ++ piece.1) (map spec.piece_of exprs.now)) }
+{
+    for expr in exprs {
+        push_next(alloc, text, expr)?;
+    }
+    Ok(())
+}
+
+#[cycle(printing)]
+fn push_next(alloc: Global, text: &mut Text, expr: &Expr) -> Result<(), NoMemory>
+    ensures { OnOk result (text.new ≡ text.old ++ codes ", " ++ (spec.piece_of expr.now).1) }
+{
+    text.push_str(", ")?;
+    push_tree(alloc, text, expr)
+}
+
+/// The level of the tree: that of its operator, or 0.
+fn level(expr: &Expr) -> usize
+    ensures { result ≡ (spec.piece_of expr.now).0 }
+{
+    match expr {
+        Expr::Binary { op, .. } => level_of(*op),
+        _ => 0,
+    }
+}
+
+fn push_number(alloc: Global, text: &mut Text, n: i64) -> Result<(), NoMemory>
+    ensures { OnOk result (text.new ≡ text.old ++ signed_decimal n) }
+{
+    text.push_str(format!(in alloc; "{n}")?.as_str())
+}
