@@ -1,21 +1,15 @@
 -- The JSON of a configuration; the bytes that are written for it are its compact text.
 use Rattle.std.specs.Prelude.{ℕ, List, [], ◌∷◌, ◌++◌, map, codes}
-use Rattle.op_base.specs.Labels.{Texts}
+use Rattle.std.specs.List.{AllByRecursion}
 use Rattle.op_json.specs.Json.{Json, null, text, array_of, object_of, json_text}
 use Rattle.cfg_types.specs.declared.config.Config.{Config}
+use Rattle.cfg_types.specs.declared.config.PromPart.{PromPart}
 use Rattle.cfg_types.specs.declared.config.RuleFile.{RuleFile}
 use Rattle.cfg_types.specs.declared.config.Group.{Group}
 use Rattle.cfg_types.specs.declared.config.Rule.{Rule}
+use Rattle.cfg_types.specs.Jobs.{job_json, HasText, HasJobSpans}
 use Rattle.cfg_types.specs.Selectors.{selector_text}
-
--- a map of texts
-abbrev pub texts_json : Texts → Json
-texts_json entries = object_of (map (λ entry. (entry.0, text entry.1)) entries)
-
--- the labels, left out where there are none
-abbrev pub labels_field : Texts → List (List ℕ × Json)
-labels_field [] = []
-labels_field (label ∷ labels) = (codes "labels", texts_json (label ∷ labels)) ∷ []
+use Rattle.cfg_types.specs.Texts.{texts_json, labels_field, span_json}
 
 -- {"expr":EXPR,"labels":LABELS,"record":NAME}
 abbrev pub rule_json : Rule → Json
@@ -33,26 +27,38 @@ file_text file = file.namespace ++ codes "/" ++ file.name
 abbrev pub file_json : RuleFile → Json
 file_json file = object_of ((codes "groups", array_of (map group_json file.groups)) ∷ [])
 
--- the spans of the settings that stand, and no external labels
-abbrev pub global_json : Json
-global_json = object_of
-    ((codes "evaluation_interval", text (codes "30s"))
-    ∷ (codes "external_labels", object_of [])
-    ∷ (codes "scrape_interval", text (codes "30s"))
-    ∷ (codes "scrape_timeout", text (codes "10s"))
+-- {"evaluation_interval":SPAN,"external_labels":LABELS,"scrape_interval":SPAN,"scrape_timeout":SPAN}
+abbrev pub global_json : PromPart → Json
+global_json part = object_of
+    ((codes "evaluation_interval", span_json part.evaluation_interval)
+    ∷ (codes "external_labels", texts_json part.external_labels)
+    ∷ (codes "scrape_interval", span_json part.scrape_interval)
+    ∷ (codes "scrape_timeout", span_json part.scrape_timeout)
     ∷ [])
 
-abbrev pub prometheus_json : Json
-prometheus_json = object_of ((codes "global", global_json) ∷ (codes "scrape_configs", array_of []) ∷ [])
+-- {"global":GLOBAL,"scrape_configs":[JOB]}
+abbrev pub prometheus_json : PromPart → Json
+prometheus_json part = object_of
+    ((codes "global", global_json part) ∷ (codes "scrape_configs", array_of (map job_json part.jobs)) ∷ [])
 
 -- {"alertmanager":null,"prometheus":PART,"rules":{FILE:{"groups":[GROUP]}}}
 abbrev pub config_json : Config → Json
 config_json config = object_of
     ((codes "alertmanager", null)
-    ∷ (codes "prometheus", prometheus_json)
+    ∷ (codes "prometheus", prometheus_json config.prometheus)
     ∷ (codes "rules", object_of (map (λ file. (file_text file, file_json file)) config.rules))
     ∷ [])
 
 -- the bytes of a configuration
 abbrev pub config_text : Config → List ℕ
 config_text config = json_text (config_json config)
+
+-- the spans of the Prometheus part have texts, and those of its jobs
+abbrev pub HasPartSpans : PromPart → Type 0
+HasPartSpans part =
+    (HasText part.evaluation_interval × HasText part.scrape_interval × HasText part.scrape_timeout)
+    × AllByRecursion HasJobSpans part.jobs
+
+-- all spans of a configuration have texts
+abbrev pub HasSpans : Config → Type 0
+HasSpans config = HasPartSpans config.prometheus

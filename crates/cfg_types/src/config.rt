@@ -1,10 +1,22 @@
-use op_base::{List, Matcher, Tags, Text};
+use crate::job::Job;
+use op_base::{List, Matcher, Span, Tags, Text};
 
 /// What one Prometheus and one Alertmanager are configured with.
 #[derive(Debug, PartialEq, Eq, Drop)]
 pub struct Config {
+    pub prometheus: PromPart,
     /// In the order of the files' texts `NAMESPACE/NAME`.
     pub rules: List<RuleFile>,
+}
+
+/// The global part of Prometheus, and its jobs.
+#[derive(Debug, PartialEq, Eq, Drop)]
+pub struct PromPart {
+    pub evaluation_interval: Span,
+    pub external_labels: Tags,
+    pub scrape_interval: Span,
+    pub scrape_timeout: Span,
+    pub jobs: List<Job>,
 }
 
 /// The rule groups of one PrometheusRule object.

@@ -1,18 +1,22 @@
-ghost use Rattle.std.specs.Prelude.{◌≡◌, ◌≤◌, length, map, IfOk, OnOk};
+ghost use Rattle.std.specs.Prelude.{◌≡◌, map, IfOk, OnOk};
 ghost use Rattle.serde_json.specs.Data.{put};
 ghost use Rattle.serde_json.specs.View as shown;
-ghost use Rattle.op_json.specs.Json.{data_of, members_after, fields_of, object_of, array_of};
+ghost use Rattle.op_json.specs.Json.{data_of, object_of, array_of};
 ghost use Rattle.cfg_types.specs.Written as spec;
 
-use crate::config::{Config, Group, Rule, RuleFile};
+use crate::config::{Config, Group, PromPart, Rule, RuleFile};
+use crate::jobs::jobs_array;
 use crate::selector::selector_text;
-use op_base::{List, NoMemory, Tags, Text};
+use crate::texts::{put_labels, put_span, texts_value};
+use op_base::{List, NoMemory, Text};
 use op_json::{push_item, put_field, put_text, text_of};
-use serde_json::{Map, Value, json};
+use serde_json::{Map, Value};
 use std::alloc::Global;
 
 /// The bytes of the configuration: compact JSON with the fields of each object in byte order.
+/// Spans are 0 or more.
 pub fn text(alloc: Global, config: &Config) -> Result<List<u8>, NoMemory>
+    requires { spec.HasSpans config.now }
     ensures { IfOk result (λ bytes. bytes ≡ spec.config_text config.now) }
 {
     let value = config_value(alloc, config)?;
@@ -21,9 +25,10 @@ pub fn text(alloc: Global, config: &Config) -> Result<List<u8>, NoMemory>
 }
 
 fn config_value(alloc: Global, config: &Config) -> Result<Value, NoMemory>
+    requires { spec.HasSpans config.now }
     ensures { IfOk result (λ value. shown.view value ≡ data_of (spec.config_json config.now)) }
 {
-    let prometheus = prometheus_value(alloc)?;
+    let prometheus = prometheus_value(alloc, &config.prometheus)?;
     let rules = files_value(alloc, config.rules.as_slice())?;
     let mut fields = Map::new(alloc);
     put_field(&mut fields, alloc, "alertmanager", Value::Null)?;
@@ -32,19 +37,34 @@ fn config_value(alloc: Global, config: &Config) -> Result<Value, NoMemory>
     Ok(Value::Object(fields))
 }
 
-// The Prometheus part of the settings that stand until settings are read.
-fn prometheus_value(alloc: Global) -> Result<Value, NoMemory>
-    ensures { IfOk result (λ value. shown.view value ≡ data_of spec.prometheus_json) }
+fn prometheus_value(alloc: Global, part: &PromPart) -> Result<Value, NoMemory>
+    requires { spec.HasPartSpans part.now }
+    ensures { IfOk result (λ value. shown.view value ≡ data_of (spec.prometheus_json part.now)) }
 {
-    Ok(json!(in alloc; {
-        "global": {
-            "evaluation_interval": "30s",
-            "external_labels": {},
-            "scrape_interval": "30s",
-            "scrape_timeout": "10s"
-        },
-        "scrape_configs": []
-    })?)
+    let global = global_value(alloc, part)?;
+    let jobs = jobs_array(alloc, &part.jobs)?;
+    let mut fields = Map::new(alloc);
+    put_field(&mut fields, alloc, "global", global)?;
+    put_field(&mut fields, alloc, "scrape_configs", jobs)?;
+    Ok(Value::Object(fields))
+}
+
+fn global_value(alloc: Global, part: &PromPart) -> Result<Value, NoMemory>
+    requires { spec.HasPartSpans part.now }
+    ensures { IfOk result (λ value. shown.view value ≡ data_of (spec.global_json part.now)) }
+{
+    let labels = texts_value(alloc, &part.external_labels)?;
+    let mut fields = Map::new(alloc);
+    put_span(
+        &mut fields,
+        alloc,
+        "evaluation_interval",
+        part.evaluation_interval,
+    )?;
+    put_field(&mut fields, alloc, "external_labels", labels)?;
+    put_span(&mut fields, alloc, "scrape_interval", part.scrape_interval)?;
+    put_span(&mut fields, alloc, "scrape_timeout", part.scrape_timeout)?;
+    Ok(Value::Object(fields))
 }
 
 fn files_value(alloc: Global, files: &[RuleFile]) -> Result<Value, NoMemory>
@@ -138,31 +158,5 @@ fn rule_value(alloc: Global, rule: &Rule) -> Result<Value, NoMemory>
     put_text(&mut fields, alloc, "expr", expr.as_str())?;
     put_text(&mut fields, alloc, "record", rule.name.as_str())?;
     put_labels(&mut fields, alloc, &rule.labels)?;
-    Ok(Value::Object(fields))
-}
-
-fn put_labels(fields: &mut Map<String, Value>, alloc: Global, labels: &Tags) -> Result<(), NoMemory>
-    ensures { OnOk result (shown.members_view fields.new.entries
-        ≡ members_after (shown.members_view fields.old.entries) (fields_of (spec.labels_field labels.now))) }
-{
-    if labels.len() == 0 {
-        return Ok(());
-    }
-    let value = texts_value(alloc, labels)?;
-    put_field(fields, alloc, "labels", value)
-}
-
-fn texts_value(alloc: Global, texts: &Tags) -> Result<Value, NoMemory>
-    ensures { IfOk result (λ value. shown.view value ≡ data_of (spec.texts_json texts.now)) }
-{
-    let mut fields = Map::new(alloc);
-    for index in 0..texts.len() {
-        put_text(
-            &mut fields,
-            alloc,
-            texts.name_at(index),
-            texts.value_at(index),
-        )?;
-    }
     Ok(Value::Object(fields))
 }

@@ -1,12 +1,14 @@
 -- Report lines: the namespace or `-`, a TAB, compact JSON with fields in byte order, a newline.
-use Rattle.std.specs.Prelude.{ℕ, pos, Bool, true, false, List, [], ◌∷◌, ◌++◌, map, Option, Some, None, ◌==◌, ◌&&◌, ◌||◌, option_map, codes}
+use Rattle.std.specs.Prelude.{ℕ, pos, Bool, true, false, List, [], ◌∷◌, ◌++◌, map, Option, Some, None, ◌≡◌, ◌==◌, ◌&&◌, ◌||◌, option_map, codes}
 use Rattle.std.specs.List.{list_all}
 use Rattle.std.specs.Cmp.Lexicographic.{pointwise}
+use Rattle.op_edges.specs.Lines.{IsClean}
 use Rattle.op_json.specs.Json.{Json, text, whole, array_of, object_of, given, json_text}
 use Rattle.op_report.specs.declared.view.Also.{Also}
 use Rattle.op_report.specs.declared.view.Report.{Report}
 use Rattle.op_report.specs.declared.view.View.{View}
-use Rattle.op_report.specs.declared.view.View.TheVariants.{Own, BadFile, NotYetFile}
+use Rattle.op_report.specs.declared.view.View.TheVariants.{Own, Page, Bad, BadFile, Long, LateTick, Tick, NotYetLine, NotYetFile}
+use Rattle.op_report.specs.Ticks.{alert_json, failed_json, stored_json}
 
 -- one text, or none
 abbrev pub texts_of : Option (List ℕ) → List Json
@@ -33,9 +35,28 @@ abbrev pub view_json : View → Json
 view_json (Own deleted key answer rule path also) = object_of
     (own_fields deleted key answer also
     ++ given (codes "rule") (option_map text rule) ++ given (codes "path") (option_map text path))
+-- {"answer":"Admitted","page":URL}
+view_json (Page url) = object_of ((codes "answer", text (codes "Admitted")) ∷ (codes "page", text url) ∷ [])
+-- {"bad":RULE,"line":LINE,"path":PATH}
+view_json (Bad rule line path) = object_of
+    ((codes "bad", text rule) ∷ (codes "line", whole (pos line)) ∷ (codes "path", text path) ∷ [])
 -- {"bad":RULE,"file":FILE,"item":ITEM,"path":PATH}
 view_json (BadFile rule file item path) = object_of
     ((codes "bad", text rule) ∷ (codes "file", text file) ∷ (codes "item", whole (pos item)) ∷ (codes "path", text path) ∷ [])
+-- {"bad":"Long","line":LINE}
+view_json (Long line) = object_of ((codes "bad", text (codes "Long")) ∷ (codes "line", whole (pos line)) ∷ [])
+-- {"bad":"LateTick","last":LAST,"line":LINE}
+view_json (LateTick last line) = object_of
+    ((codes "bad", text (codes "LateTick")) ∷ (codes "last", whole last.0) ∷ (codes "line", whole (pos line)) ∷ [])
+-- {"alerts":[..],"failed":[..],"stored":[..],"tick":AT}
+view_json (Tick alerts failed stored at) = object_of
+    ((codes "alerts", array_of (map alert_json alerts))
+    ∷ (codes "failed", array_of (map failed_json failed))
+    ∷ (codes "stored", array_of (map stored_json stored))
+    ∷ (codes "tick", whole at.0)
+    ∷ [])
+-- {"bad":"NotYet","line":LINE}
+view_json (NotYetLine line) = object_of ((codes "bad", text (codes "NotYet")) ∷ (codes "line", whole (pos line)) ∷ [])
 -- {"bad":"NotYet","file":FILE,"item":ITEM}
 view_json (NotYetFile file item) = object_of
     ((codes "bad", text (codes "NotYet")) ∷ (codes "file", text file) ∷ (codes "item", whole (pos item)) ∷ [])
@@ -66,6 +87,10 @@ address_of (Some namespace) = namespace
 abbrev pub report_line : Report → List ℕ
 report_line report = line_of (address_of report.to) report.view
 
+-- one whole line: no newline stands in it but its last byte
+unfoldable pub IsOneLine : List ℕ → Type 0
+IsOneLine line = (text : List ℕ) × (line ≡ text ++ NEWLINE ∷ []) × IsClean text
+
 -- an answer that leaves nothing refused or skipped
 abbrev pub is_good : List ℕ → Bool
 is_good answer =
@@ -74,5 +99,11 @@ is_good answer =
 -- each answer of the view is a good one
 abbrev pub answers_well : View → Bool
 answers_well (Own deleted key answer rule path also) = is_good answer && list_all (λ one. is_good one.answer) also
+answers_well (Page url) = true
+answers_well (Bad rule line path) = false
 answers_well (BadFile rule file item path) = false
+answers_well (Long line) = false
+answers_well (LateTick last line) = false
+answers_well (Tick alerts failed stored at) = true
+answers_well (NotYetLine line) = false
 answers_well (NotYetFile file item) = false

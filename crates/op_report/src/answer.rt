@@ -11,8 +11,10 @@ pub fn answers_well(view: &View) -> bool
 {
     match view {
         View::Own { answer, also, .. } => is_good(answer.as_str()) && all_good(also.as_slice()),
+        View::Page { .. } | View::Tick { .. } => true,
         View::BadFile { .. } => false,
-        View::NotYetFile { .. } => false,
+        View::Bad { .. } | View::Long { .. } | View::LateTick { .. } => false,
+        View::NotYetLine { .. } | View::NotYetFile { .. } => false,
     }
 }
 

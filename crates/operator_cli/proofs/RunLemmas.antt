@@ -6,9 +6,9 @@ use Rattle.op_edges.specs.Streams.{AppendsPrefix}
 use Rattle.op_edges.proofs.StreamLemmas.{appends_nothing, appends_twice, appends_same, prefix_after}
 use Rattle.op_report.specs.Lines.{report_line}
 use Rattle.operator_cli.specs.declared.files.NamedFile.{NamedFile}
-use Rattle.operator_cli.specs.Items.{event_of, events_of, item_of}
-use Rattle.operator_cli.specs.Objects.{Objects, objects_after, present}
-use Rattle.operator_cli.specs.Runs.{run, report_of, report_bytes}
+use Rattle.op_thin.specs.Items.{item_of}
+use Rattle.op_thin.specs.Objects.{Present, objects_after}
+use Rattle.operator_cli.specs.Runs.{run, report_of, report_bytes, event_of, events_of, present}
 use Rattle.operator_cli.specs.Statuses.{is_well, all_well}
 
 -- a prefix of the bytes is a prefix of more bytes
@@ -28,14 +28,14 @@ pub none_is_prefix : (a : Option (List ℕ)) (xs : List ℕ) → AppendsPrefix a
 none_is_prefix a xs = (0, omega arith, appends_nothing a)
 
 -- what was written of all, and what the rest of the files gives
-pub record Ran (objects : Objects) (files : List NamedFile) (before now : Option (List ℕ)) (left : Objects) (rest : List NamedFile) (good : Bool) : Type 0 where
+pub record Ran (objects : Present) (files : List NamedFile) (before now : Option (List ℕ)) (left : Present) (rest : List NamedFile) (good : Bool) : Type 0 where
   pub done : List ℕ
   pub written : Appends before now done
   pub lines : report_bytes (run objects (events_of files)) ≡ done ++ report_bytes (run left (events_of rest))
   pub objects_left : present objects (events_of files) ≡ present left (events_of rest)
   pub well : all_well (run objects (events_of files)) ≡ (good && all_well (run left (events_of rest)))
 
-pub ran_none : (objects : Objects) (files : List NamedFile) (told : Option (List ℕ)) → Ran objects files told told objects files true
+pub ran_none : (objects : Present) (files : List NamedFile) (told : Option (List ℕ)) → Ran objects files told told objects files true
 ran_none objects files told = record { done = []; written = appends_nothing told; lines = refl; objects_left = refl; well = refl }
 
 and_assoc : (a b c : Bool) → (a && (b && c)) ≡ ((a && b) && c)
@@ -46,7 +46,7 @@ next_file : (files : List NamedFile) (i : ℕ) (file : NamedFile) → i < length
 next_file files i file within is = drop-cons files i file within ∙ ap (λ f. f ∷ drop (suc i) files) (sym is) ∙ ap (λ n. file ∷ drop n files) (sym (add-one i))
 
 -- the next file was run
-pub ran_next : (objects : Objects) (files : List NamedFile) (before now then_now : Option (List ℕ)) (left next : Objects) (good well joined : Bool) (i : ℕ) (file : NamedFile)
+pub ran_next : (objects : Present) (files : List NamedFile) (before now then_now : Option (List ℕ)) (left next : Present) (good well joined : Bool) (i : ℕ) (file : NamedFile)
     → i < length files → file ≡ get_or files i file → Ran objects files before now left (drop i files) good
     → Appends now then_now (report_line (report_of left (event_of file))) → next ≡ objects_after left (item_of file.bytes) → well ≡ is_well (report_of left (event_of file))
     → joined ≡ (good && well) → Ran objects files before then_now next (drop (i + 1) files) joined
@@ -69,7 +69,7 @@ ran_next objects files before now then_now left next good well joined i file wit
     }
 
 -- the run ended within the line of the next file
-pub ran_into : (objects : Objects) (files : List NamedFile) (before now then_now : Option (List ℕ)) (left : Objects) (good : Bool) (i : ℕ) (file : NamedFile)
+pub ran_into : (objects : Present) (files : List NamedFile) (before now then_now : Option (List ℕ)) (left : Present) (good : Bool) (i : ℕ) (file : NamedFile)
     → i < length files → file ≡ get_or files i file → Ran objects files before now left (drop i files) good
     → AppendsPrefix now then_now (report_line (report_of left (event_of file)))
     → AppendsPrefix before then_now (report_bytes (run objects (events_of files)))
@@ -83,7 +83,7 @@ ran_into objects files before now then_now left good i file within is ran line =
     (prefix_of_more before then_now (ran.done ++ report_line this) after (prefix_after before now then_now ran.done (report_line this) ran.written line))
 
 -- no file is left
-pub record RanAll (objects : Objects) (files : List NamedFile) (before now : Option (List ℕ)) (left : Objects) (good : Bool) : Type 0 where
+pub record RanAll (objects : Present) (files : List NamedFile) (before now : Option (List ℕ)) (left : Present) (good : Bool) : Type 0 where
   pub lines : Appends before now (report_bytes (run objects (events_of files)))
   pub objects_left : left ≡ present objects (events_of files)
   pub well : good ≡ all_well (run objects (events_of files))
@@ -92,7 +92,7 @@ and_true : (b : Bool) → (b && true) ≡ b
 and_true true = refl
 and_true false = refl
 
-pub ran_all : (objects : Objects) (files : List NamedFile) (before now : Option (List ℕ)) (left : Objects) (good : Bool) (i : ℕ) → length files ≤ i
+pub ran_all : (objects : Present) (files : List NamedFile) (before now : Option (List ℕ)) (left : Present) (good : Bool) (i : ℕ) → length files ≤ i
     → Ran objects files before now left (drop i files) good → RanAll objects files before now left good
 ran_all objects files before now left good i past ran =
     let none = drop_all i files past in

@@ -1,10 +1,5 @@
-pub mod Compiled
 pub mod Endings
 pub mod Folders
-pub mod Items
-pub mod Objects
-pub mod Owners
 pub mod Readings
 pub mod Runs
 pub mod Statuses
-pub mod ThinRules

@@ -1,22 +1,18 @@
 //! The program `operator`: a compiler for the custom resources of the Prometheus Operator.
 //!
 //! `operate`, in `program.rt`, is the whole program over what it is handed, and its contract is the
-//! program's promise; `main` hands it the real folder, streams and words. Read `specs/Runs.antt`,
-//! `specs/Compiled.antt` and `specs/Endings.antt` first.
+//! program's promise; `main` hands it the real folder, streams and words. Read `specs/Runs.antt`
+//! and `specs/Endings.antt` first.
 #![tactic(auto)]
 
 ghost use Rattle.std.specs.Prelude.{◌≡◌, ◌<◌};
 
-mod compiled;
 mod files;
-mod item;
-mod objects;
 mod program;
 mod run;
 mod status;
 #[cfg(test)]
 mod tests;
-mod thin;
 mod words;
 
 use op_base::Steps;

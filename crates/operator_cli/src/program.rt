@@ -4,22 +4,21 @@ ghost use Rattle.op_edges.specs.Causes.{Rose};
 ghost use Rattle.op_edges.specs.Streams.{AppendsPrefix};
 ghost use Rattle.op_report.specs.Lines.{NEWLINE};
 ghost use Rattle.cfg_types.specs.Written.{config_text};
-ghost use Rattle.operator_cli.specs.Compiled.{config_of};
+ghost use Rattle.op_thin.specs.Compiled.{config_of};
 ghost use Rattle.operator_cli.specs.Endings.{WhereTold, StopsWith, InOrder};
 ghost use Rattle.operator_cli.specs.Folders.{manifests_in, bytes_in};
 ghost use Rattle.operator_cli.specs.Readings.{reading_of};
 ghost use Rattle.operator_cli.specs.Runs.{report_bytes, reports_of, configuration_of};
 ghost use Rattle.operator_cli.specs.Statuses.{status_text, is_ended, is_silent, is_cut_short, is_whole, is_after_files, status_of, status_of_well, status_of_stop as status_of_stop_in};
 
-use crate::compiled::compiled;
 use crate::files::{MOST_BYTES, NamedFile, Trouble, read_manifests};
-use crate::objects::Objects;
 use crate::run::{Stop, report_files};
 use crate::status::Status;
 use crate::words::read_words;
 use cfg_types::text;
 use op_base::{List, NoMemory, Steps};
 use op_edges::{Folder, Sink, Source, put_all};
+use op_thin::{Objects, compile as compile_objects};
 use std::alloc::Global;
 use std::sync::ledger::Ledger;
 
@@ -223,7 +222,7 @@ fn write_configuration<O: Sink>(alloc: Global, objects: Objects, out: &mut O) ->
 fn configuration_bytes(alloc: Global, objects: Objects) -> Result<List<u8>, NoMemory>
     ensures { IfOk result (λ bytes. bytes ≡ config_text (config_of objects) ++ NEWLINE ∷ []) }
 {
-    let config = compiled(alloc, objects)?;
+    let config = compile_objects(alloc, objects)?;
     let mut bytes = text(alloc, &config)?;
     bytes.push(b'\n')?;
     Ok(bytes)

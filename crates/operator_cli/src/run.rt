@@ -4,19 +4,17 @@ ghost use Rattle.op_base.specs.Names.{is_namespace};
 ghost use Rattle.op_edges.specs.Causes.{Rose};
 ghost use Rattle.op_edges.specs.Streams.{AppendsPrefix};
 ghost use Rattle.op_report.specs.Lines as lines;
-ghost use Rattle.operator_cli.specs.Items.{event_of, events_of, item_of as meaning_of};
-ghost use Rattle.operator_cli.specs.Objects.{objects_after, present};
-ghost use Rattle.operator_cli.specs.Owners.{owner_of};
+ghost use Rattle.op_thin.specs.Items.{IsThinProbe, item_of as meaning_of};
+ghost use Rattle.op_thin.specs.Objects.{objects_after};
 ghost use Rattle.operator_cli.specs.Statuses.{is_well, all_well};
 ghost use Rattle.operator_cli.specs.Runs as spec;
+ghost use Rattle.operator_cli.specs.Runs.{event_of, events_of, present};
 
 use crate::files::NamedFile;
-use crate::item::{Item, item_of};
-use crate::objects::Objects;
-use crate::thin::ThinRule;
 use op_base::{Key, Kind, List, NoMemory, Text};
 use op_edges::{Sink, put_all};
 use op_report::{Report, View, answers_well, report_line};
+use op_thin::{Item, Objects, ThinProbe, ThinRule, item_of};
 use std::alloc::Global;
 
 /// Why a run ended before its end.
@@ -103,13 +101,13 @@ fn write_report<O: Sink>(alloc: Global, report: &Report, sink: &mut O) -> Result
 fn take_file(alloc: Global, file: &NamedFile, objects: &mut Objects) -> Result<Report, NoMemory>
     ensures report { IfOk result (λ report. report ≡ spec.report_of objects.old (event_of file.now)) }
     ensures objects { OnOk result (objects.new ≡ objects_after objects.old (meaning_of file.now.bytes)) }
-    ensures owner { IfOk result (λ report. report.to ≡ owner_of objects.old (meaning_of file.now.bytes)) }
     ensures named { IfOk result (λ report. IfSome report.to (λ namespace. is_namespace namespace ≡ true)) }
 {
     match item_of(alloc, file.bytes.as_slice())? {
         Item::Broken => not_json(alloc, &file.name),
         Item::NotYet => not_yet(&file.name),
         Item::Rule(rule) => take_rule(alloc, &file.name, rule, objects),
+        Item::Probe(probe) => take_probe(alloc, &file.name, probe, objects),
     }
 }
 
@@ -122,12 +120,29 @@ fn take_rule(
     requires { is_namespace rule.namespace ≡ true }
     ensures report { IfOk result (λ report. report ≡ spec.report_of objects.old (record { file = file.now; item = Item.Rule rule })) }
     ensures objects { OnOk result (objects.new ≡ objects_after objects.old (Item.Rule rule)) }
-    ensures owner { IfOk result (λ report. report.to ≡ owner_of objects.old (Item.Rule rule)) }
     ensures named { IfOk result (λ report. IfSome report.to (λ namespace. is_namespace namespace ≡ true)) }
 {
-    if objects.has_room(rule.namespace.as_str(), rule.name.as_str()) {
-        let report = admitted(alloc, &rule)?;
-        objects.put(rule)?;
+    let report = admitted(alloc, Kind::PrometheusRule, &rule.namespace, &rule.name)?;
+    if objects.put_rule(rule)? {
+        Ok(report)
+    } else {
+        not_yet(file)
+    }
+}
+
+fn take_probe(
+    alloc: Global,
+    file: &Text,
+    probe: ThinProbe,
+    objects: &mut Objects,
+) -> Result<Report, NoMemory>
+    requires { IsThinProbe probe }
+    ensures report { IfOk result (λ report. report ≡ spec.report_of objects.old (record { file = file.now; item = Item.Probe probe })) }
+    ensures objects { OnOk result (objects.new ≡ objects_after objects.old (Item.Probe probe)) }
+    ensures named { IfOk result (λ report. IfSome report.to (λ namespace. is_namespace namespace ≡ true)) }
+{
+    let report = admitted(alloc, Kind::Probe, &probe.namespace, &probe.name)?;
+    if objects.put_probe(probe)? {
         Ok(report)
     } else {
         not_yet(file)
@@ -160,16 +175,16 @@ fn not_yet(file: &Text) -> Result<Report, NoMemory>
     })
 }
 
-fn admitted(alloc: Global, rule: &ThinRule) -> Result<Report, NoMemory>
-    ensures { IfOk result (λ report. report ≡ spec.admitted rule.now) }
+fn admitted(alloc: Global, kind: Kind, namespace: &Text, name: &Text) -> Result<Report, NoMemory>
+    ensures { IfOk result (λ report. report ≡ spec.admitted kind namespace.now name.now) }
 {
     let key = Key {
-        kind: Kind::PrometheusRule,
-        namespace: rule.namespace.clone()?,
-        name: rule.name.clone()?,
+        kind,
+        namespace: namespace.clone()?,
+        name: name.clone()?,
     };
     Ok(Report {
-        to: Some(rule.namespace.clone()?),
+        to: Some(namespace.clone()?),
         view: View::Own {
             deleted: false,
             key: key.text(alloc)?,

@@ -1,7 +1,6 @@
 use Rattle.std.proofs.Common.{subst}
 use Rattle.op_edges.specs.Streams.{AppendsPrefix}
-use Rattle.operator_cli.specs.Items.{events_of}
-use Rattle.operator_cli.specs.Runs.{run, report_bytes}
+use Rattle.operator_cli.specs.Runs.{run, report_bytes, events_of}
 use Rattle.operator_cli.proofs.RunLemmas.{all_are_prefix}
 use Rattle.operator_cli.proofs.program.compile_files.Goals as goal
 

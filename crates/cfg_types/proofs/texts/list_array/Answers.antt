@@ -1,0 +1,12 @@
+use Rattle.std.proofs.Common.{◌∙◌, ap, sym, map}
+use Rattle.serde_json.specs.Data.{array}
+use Rattle.serde_json.specs.View as shown
+use Rattle.serde_json.proofs.Views.{view-Array}
+use Rattle.op_json.specs.Json.{text, items_of, elements_of}
+use Rattle.op_json.proofs.Fields.{array_of_each}
+use Rattle.cfg_types.proofs.texts.list_array.Goals as goal
+
+pub returns : goal.returns
+returns c = view-Array c.in_ok-list_values.field-0
+    ∙ ap array (ap shown.items_of c.in_ok-list_values.ensures ∙ sym (array_of_each text c.as_slice.result.now)
+    ∙ ap (λ texts. items_of (elements_of (map text texts))) c.as_slice.ensures)

@@ -1,0 +1,25 @@
+use op_base::{List, Span, Tags, Text};
+use op_relabel::Step;
+
+/// What one job of Prometheus scrapes, and how.
+#[derive(Debug, PartialEq, Eq, Drop)]
+pub struct Job {
+    pub honor_labels: bool,
+    pub job_name: Text,
+    /// The steps that each sample's labels go through.
+    pub metric_relabel_configs: List<Step>,
+    pub metrics_path: Text,
+    /// The steps that each target's labels go through.
+    pub relabel_configs: List<Step>,
+    pub scheme: Text,
+    pub scrape_interval: Span,
+    pub scrape_timeout: Span,
+    pub static_configs: StaticConfig,
+}
+
+/// Targets that are given by their addresses, and the labels that all of them have.
+#[derive(Debug, PartialEq, Eq, Drop)]
+pub struct StaticConfig {
+    pub labels: Tags,
+    pub targets: List<Text>,
+}

@@ -1,0 +1,3 @@
+pub mod CleanLemmas
+pub mod LineLemmas
+pub mod ReadBackLemmas

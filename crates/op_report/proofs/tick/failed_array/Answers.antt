@@ -1,0 +1,13 @@
+use Rattle.std.proofs.Common.{◌∙◌, ap, sym, map}
+use Rattle.serde_json.specs.Data.{array}
+use Rattle.serde_json.specs.View as shown
+use Rattle.serde_json.proofs.Views.{view-Array}
+use Rattle.op_json.specs.Json.{items_of, elements_of}
+use Rattle.op_json.proofs.Fields.{array_of_each}
+use Rattle.op_report.specs.Ticks.{failed_json}
+use Rattle.op_report.proofs.tick.failed_array.Goals as goal
+
+pub returns : goal.returns
+returns c = view-Array c.in_ok-failed_values.field-0
+    ∙ ap array (ap shown.items_of c.in_ok-failed_values.ensures ∙ sym (array_of_each failed_json c.as_slice.result.now)
+    ∙ ap (λ items. items_of (elements_of (map failed_json items))) c.as_slice.ensures)

@@ -1,0 +1,90 @@
+-- What each configuration has: spans of 0 or more, patterns that are patterns, and rule files that are
+-- those of thin rules.
+use Rattle.std.proofs.Common.{ℕ, List, [], ◌∷◌, map, fold, codes}
+use Rattle.std.specs.List.{AllByRecursion}
+use Rattle.std.specs.Int.Signed.{le_z_yes}
+use Rattle.std.specs.declared.cmp.Ordering.TheVariants.{Less, Equal, Greater}
+use Rattle.std.specs.Ordering.{nat_cmp}
+use Rattle.std.specs.Cmp.Lexicographic.{slice_cmp}
+use Rattle.std.specs.FinMap.Entries.{by_order}
+use Rattle.op_base.specs.Maps.{Map, values_of, with_entry}
+use Rattle.op_relabel.specs.Relabelled.{HasPatterns}
+use Rattle.op_relabel.specs.Steps.{put_step}
+use Rattle.op_relabel.proofs.RelabelLemmas.{default-pattern, HasPatterns-put}
+use Rattle.cfg_types.specs.declared.job.Job.{Job}
+use Rattle.cfg_types.specs.Jobs.{HasJobSpans}
+use Rattle.cfg_types.specs.Written.{HasSpans, file_text}
+use Rattle.cfg_types.specs.declared.config.RuleFile.{RuleFile}
+use Rattle.op_thin.specs.declared.rule.ThinRule.{ThinRule}
+use Rattle.op_thin.specs.declared.probe.ThinProbe.{ThinProbe}
+use Rattle.op_thin.specs.Objects.{Present, all_of}
+use Rattle.op_thin.specs.FileOrder.{in_order}
+use Rattle.op_thin.specs.Compiled.{ENFORCED_LABEL, enforced_step, probe_steps, job_of, file_of, config_of}
+use Rattle.op_thin.specs.CompiledPatterns.{JobHasPatterns, JobsHavePatterns, FileHasPatterns, RulesHavePatterns}
+
+-- what holds of each image holds of all
+all_images : {A B : Type 0} (P : B → Type 0) (f : A → B) (xs : List A) → ((x : A) → P (f x)) → AllByRecursion P (map f xs)
+all_images P f [] holds = tt
+all_images P f (x ∷ xs) holds = (holds x, all_images P f xs holds)
+
+-- what holds of the values holds of them and of one more
+values_with : {X : Type 0} (P : X → Type 0) (key : List ℕ) (value : X) (entries : Map X)
+    → P value → AllByRecursion P (values_of entries) → AllByRecursion P (values_of (with_entry entries key value))
+values_with P key value [] one all = (one, tt)
+values_with P key value (e ∷ entries) one all =
+    elim (slice_cmp nat_cmp key e.0) as (λ o. AllByRecursion P
+    (values_of (by_order o ((key, value) ∷ e ∷ entries) ((e.0, value) ∷ entries) (e ∷ with_entry entries key value)))) [
+      | Less ↦ (one, all)
+      | Equal ↦ (one, all.1)
+      | Greater ↦ (all.0, values_with P key value entries one all.1)
+    ]
+
+all_placed : (P : RuleFile → Type 0) (placed : Map RuleFile) (files : List RuleFile)
+    → AllByRecursion P (values_of placed) → AllByRecursion P files
+    → AllByRecursion P (values_of (fold (λ placed file. with_entry placed (file_text file) file) placed files))
+all_placed P placed [] there all = there
+all_placed P placed (file ∷ files) there all =
+    all_placed P (with_entry placed (file_text file) file) files (values_with P (file_text file) file placed all.0 there) all.1
+
+-- what holds of each file holds of them in order
+pub all_in_order : (P : RuleFile → Type 0) (files : List RuleFile) → AllByRecursion P files → AllByRecursion P (in_order files)
+all_in_order P files all = all_placed P [] files tt all
+
+-- what holds of each thin rule's file holds of the rule files
+pub files_have : (P : RuleFile → Type 0) (objects : Present) → ((rule : ThinRule) → P (file_of rule))
+    → AllByRecursion P (config_of objects).rules
+files_have P objects holds =
+    all_in_order P (map file_of (all_of objects.rules)) (all_images P file_of (all_of objects.rules) holds)
+
+-- what holds of each thin probe's job holds of the jobs
+pub jobs_have : (P : Job → Type 0) (objects : Present) → ((probe : ThinProbe) → P (job_of probe))
+    → AllByRecursion P (config_of objects).prometheus.jobs
+jobs_have P objects holds = all_images P job_of (all_of objects.probes) holds
+
+job_spans : (probe : ThinProbe) → HasJobSpans (job_of probe)
+job_spans probe = (le_z_yes tt, le_z_yes tt)
+
+-- all spans have texts
+pub config_spans : (objects : Present) → HasSpans (config_of objects)
+config_spans objects = ((le_z_yes tt, le_z_yes tt, le_z_yes tt), jobs_have HasJobSpans objects job_spans)
+
+-- the step that puts the enforced label, and those before it
+enforced_last : (namespace : List ℕ) → HasPatterns (enforced_step namespace ∷ [])
+enforced_last namespace = HasPatterns-put ENFORCED_LABEL namespace [] tt
+
+url_before : (probe : ThinProbe) → HasPatterns (put_step (codes "__address__") probe.url ∷ enforced_step probe.namespace ∷ [])
+url_before probe = HasPatterns-put (codes "__address__") probe.url (enforced_step probe.namespace ∷ []) (enforced_last probe.namespace)
+
+probe_patterns : (probe : ThinProbe) → HasPatterns (probe_steps probe)
+probe_patterns probe = (default-pattern, (default-pattern, url_before probe))
+
+job_patterns : (probe : ThinProbe) → JobHasPatterns (job_of probe)
+job_patterns probe = (probe_patterns probe, enforced_last probe.namespace)
+
+-- the patterns of the jobs' steps are patterns
+pub jobs_patterns : (objects : Present) → JobsHavePatterns (config_of objects)
+jobs_patterns objects = jobs_have JobHasPatterns objects job_patterns
+
+-- no rule asks for a pattern that isn't one
+pub rules_patterns : (objects : Present) → RulesHavePatterns (config_of objects)
+rules_patterns objects = files_have FileHasPatterns objects (λ rule. (((tt, tt), tt), tt))

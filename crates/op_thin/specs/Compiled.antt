@@ -1,0 +1,96 @@
+-- The configuration of the objects present, made from them alone. Until settings are read, every
+-- object is selected and enforced with the label `namespace`.
+use Rattle.std.specs.Prelude.{ℕ, pos, List, [], ◌∷◌, false, codes, map}
+use Rattle.op_base.specs.declared.matcher.Matcher.{Matcher}
+use Rattle.op_base.specs.declared.matcher.MatchOp.TheVariants.{Eq}
+use Rattle.op_base.specs.declared.span.Span.{Span}
+use Rattle.op_relabel.specs.declared.step.Step.{Step}
+use Rattle.op_relabel.specs.Steps.{copy_step, put_step}
+use Rattle.cfg_types.specs.declared.config.Config.{Config}
+use Rattle.cfg_types.specs.declared.config.PromPart.{PromPart}
+use Rattle.cfg_types.specs.declared.config.RuleFile.{RuleFile}
+use Rattle.cfg_types.specs.declared.config.Group.{Group}
+use Rattle.cfg_types.specs.declared.config.Rule.{Rule}
+use Rattle.cfg_types.specs.declared.config.PlainSelector.{PlainSelector}
+use Rattle.cfg_types.specs.declared.job.Job.{Job}
+use Rattle.op_thin.specs.declared.rule.ThinRule.{ThinRule}
+use Rattle.op_thin.specs.declared.probe.ThinProbe.{ThinProbe}
+use Rattle.op_thin.specs.Objects.{Present, all_of}
+use Rattle.op_thin.specs.FileOrder.{in_order}
+use Rattle.op_thin.specs.ThinProbes.{job_name}
+
+abbrev pub ENFORCED_LABEL : List ℕ
+ENFORCED_LABEL = codes "namespace"
+
+-- `namespace="NS"`
+abbrev pub enforced_matcher : List ℕ → Matcher
+enforced_matcher namespace = record { name = ENFORCED_LABEL; op = Eq; value = namespace }
+
+-- the metric's entries of the rule's own namespace
+abbrev pub enforced_expr : ThinRule → PlainSelector
+enforced_expr rule = record { name = rule.expr; matchers = enforced_matcher rule.namespace ∷ [] }
+
+-- the rule with the enforced label among its labels
+abbrev pub config_rule : ThinRule → Rule
+config_rule rule = record {
+  name = rule.record_name;
+  expr = enforced_expr rule;
+  labels = (ENFORCED_LABEL, rule.namespace) ∷ [];
+}
+
+abbrev pub group_of : ThinRule → Group
+group_of rule = record { name = rule.group; rules = config_rule rule ∷ [] }
+
+abbrev pub file_of : ThinRule → RuleFile
+file_of rule = record { namespace = rule.namespace; name = rule.name; groups = group_of rule ∷ [] }
+
+-- the enforced label is put last
+abbrev pub enforced_step : List ℕ → Step
+enforced_step namespace = put_step ENFORCED_LABEL namespace
+
+-- the target is the prober's parameter and the instance, and the prober is asked in its place
+abbrev pub probe_steps : ThinProbe → List Step
+probe_steps probe =
+    copy_step (codes "__address__") (codes "__param_target")
+    ∷ copy_step (codes "__param_target") (codes "instance")
+    ∷ put_step (codes "__address__") probe.url
+    ∷ enforced_step probe.namespace
+    ∷ []
+
+-- the spans of the settings that stand: 30 seconds between scrapes and between rounds, 10 for a scrape
+abbrev pub INTERVAL : Span
+INTERVAL = record { 0 = pos 30000 }
+
+abbrev pub TIMEOUT : Span
+TIMEOUT = record { 0 = pos 10000 }
+
+-- the job of a probe
+abbrev pub job_of : ThinProbe → Job
+job_of probe = record {
+  honor_labels = false;
+  job_name = job_name probe;
+  metric_relabel_configs = enforced_step probe.namespace ∷ [];
+  metrics_path = codes "/probe";
+  relabel_configs = probe_steps probe;
+  scheme = codes "http";
+  scrape_interval = INTERVAL;
+  scrape_timeout = TIMEOUT;
+  static_configs = record { labels = (ENFORCED_LABEL, probe.namespace) ∷ []; targets = probe.target ∷ [] };
+}
+
+-- the Prometheus part: the settings that stand, and the jobs by namespace and name
+abbrev pub prometheus_of : List ThinProbe → PromPart
+prometheus_of probes = record {
+  evaluation_interval = INTERVAL;
+  external_labels = [];
+  scrape_interval = INTERVAL;
+  scrape_timeout = TIMEOUT;
+  jobs = map job_of probes;
+}
+
+-- the configuration: the jobs, and the rule files in the order of their texts
+abbrev pub config_of : Present → Config
+config_of objects = record {
+  prometheus = prometheus_of (all_of objects.probes);
+  rules = in_order (map file_of (all_of objects.rules));
+}

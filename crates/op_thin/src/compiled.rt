@@ -1,0 +1,177 @@
+ghost use Rattle.std.specs.Prelude.{◌≡◌, ◌∷◌, [], map, IfOk, OnOk};
+ghost use Rattle.op_base.specs.Maps.{with_entry};
+ghost use Rattle.cfg_types.specs.Written.{HasSpans, file_text as text_of};
+ghost use Rattle.op_thin.specs.Compiled as spec;
+ghost use Rattle.op_thin.specs.CompiledPatterns.{JobsHavePatterns, RulesHavePatterns};
+ghost use Rattle.op_thin.specs.FileOrder.{files_by_text as files_by_text_of};
+ghost use Rattle.op_thin.specs.ThinProbes.{job_name as job_name_of};
+
+use crate::objects::Objects;
+use crate::probe::ThinProbe;
+use crate::rule::ThinRule;
+use cfg_types::{
+    Config, Group, Job, PlainSelector, PromPart, Rule, RuleFile, StaticConfig, file_text,
+};
+use op_base::{List, MatchOp, Matcher, NoMemory, Span, Table, Tags, Text};
+use op_relabel::Step;
+use std::alloc::Global;
+
+const ENFORCED_LABEL: &str = "namespace";
+
+/// The configuration of the objects present.
+pub fn compile(alloc: Global, objects: Objects) -> Result<Config, NoMemory>
+    ensures config { IfOk result (λ config. config ≡ spec.config_of objects) }
+    ensures spans { IfOk result HasSpans }
+    ensures jobs { IfOk result JobsHavePatterns }
+    ensures rules { IfOk result RulesHavePatterns }
+{
+    let (rules, probes) = objects.into_all(alloc)?;
+    let prometheus = prometheus_of(alloc, probes)?;
+    let files = files_by_text(alloc, rules)?;
+    Ok(Config {
+        prometheus,
+        rules: files.into_values(alloc)?,
+    })
+}
+
+fn prometheus_of(alloc: Global, probes: List<ThinProbe>) -> Result<PromPart, NoMemory>
+    ensures { IfOk result (λ part. part ≡ spec.prometheus_of probes) }
+{
+    Ok(PromPart {
+        evaluation_interval: Span(30_000),
+        external_labels: Tags::new(alloc),
+        scrape_interval: Span(30_000),
+        scrape_timeout: Span(10_000),
+        jobs: jobs_of(alloc, probes)?,
+    })
+}
+
+fn jobs_of(alloc: Global, probes: List<ThinProbe>) -> Result<List<Job>, NoMemory>
+    ensures { IfOk result (λ jobs. jobs ≡ map spec.job_of probes) }
+{
+    let mut jobs = List::new(alloc);
+    for probe in probes.into_vec() {
+        jobs.push(job_of(alloc, probe)?)?;
+    }
+    Ok(jobs)
+}
+
+fn job_of(alloc: Global, probe: ThinProbe) -> Result<Job, NoMemory>
+    ensures { IfOk result (λ job. job ≡ spec.job_of probe) }
+{
+    Ok(Job {
+        honor_labels: false,
+        job_name: job_name(alloc, &probe)?,
+        metric_relabel_configs: list_of(alloc, enforced_step(alloc, &probe)?)?,
+        metrics_path: Text::from_str(alloc, "/probe")?,
+        relabel_configs: probe_steps(alloc, &probe)?,
+        scheme: Text::from_str(alloc, "http")?,
+        scrape_interval: Span(30_000),
+        scrape_timeout: Span(10_000),
+        static_configs: StaticConfig {
+            labels: enforced_labels(alloc, &probe.namespace)?,
+            targets: list_of(alloc, probe.target)?,
+        },
+    })
+}
+
+fn job_name(alloc: Global, probe: &ThinProbe) -> Result<Text, NoMemory>
+    ensures { IfOk result (λ name. name ≡ job_name_of probe.now) }
+{
+    let mut name = Text::from_str(alloc, "probe/")?;
+    name.push_str(probe.namespace.as_str())?;
+    name.push_str("/")?;
+    name.push_str(probe.name.as_str())?;
+    Ok(name)
+}
+
+fn enforced_step(alloc: Global, probe: &ThinProbe) -> Result<Step, NoMemory>
+    ensures { IfOk result (λ step. step ≡ spec.enforced_step probe.now.namespace) }
+{
+    Step::put_value(alloc, ENFORCED_LABEL, probe.namespace.as_str())
+}
+
+fn probe_steps(alloc: Global, probe: &ThinProbe) -> Result<List<Step>, NoMemory>
+    ensures { IfOk result (λ steps. steps ≡ spec.probe_steps probe.now) }
+{
+    let mut steps = List::new(alloc);
+    steps.push(Step::copy_label(alloc, "__address__", "__param_target")?)?;
+    steps.push(Step::copy_label(alloc, "__param_target", "instance")?)?;
+    steps.push(Step::put_value(alloc, "__address__", probe.url.as_str())?)?;
+    steps.push(enforced_step(alloc, probe)?)?;
+    Ok(steps)
+}
+
+fn files_by_text(alloc: Global, rules: List<ThinRule>) -> Result<Table<RuleFile>, NoMemory>
+    ensures { IfOk result (λ files. files ≡ files_by_text_of (map spec.file_of rules)) }
+{
+    let mut files = Table::new(alloc);
+    for rule in rules.into_vec() {
+        place(alloc, &mut files, rule)?;
+    }
+    Ok(files)
+}
+
+fn place(alloc: Global, files: &mut Table<RuleFile>, rule: ThinRule) -> Result<(), NoMemory>
+    ensures { OnOk result (files.new ≡ with_entry files.old (text_of (spec.file_of rule)) (spec.file_of rule)) }
+{
+    let file = file_from(alloc, rule)?;
+    let text = file_text(&file)?;
+    files.insert(text, file)
+}
+
+fn file_from(alloc: Global, rule: ThinRule) -> Result<RuleFile, NoMemory>
+    ensures { IfOk result (λ file. file ≡ spec.file_of rule) }
+{
+    let ThinRule {
+        namespace,
+        name,
+        group,
+        record_name,
+        expr,
+    } = rule;
+    let rule = Rule {
+        name: record_name,
+        expr: enforced_expr(alloc, expr, &namespace)?,
+        labels: enforced_labels(alloc, &namespace)?,
+    };
+    let group = Group {
+        name: group,
+        rules: list_of(alloc, rule)?,
+    };
+    Ok(RuleFile {
+        namespace,
+        name,
+        groups: list_of(alloc, group)?,
+    })
+}
+
+fn enforced_expr(alloc: Global, name: Text, namespace: &Text) -> Result<PlainSelector, NoMemory>
+    ensures { IfOk result (λ expr. expr ≡ record { name = name; matchers = spec.enforced_matcher namespace.now ∷ [] }) }
+{
+    let matcher = Matcher {
+        name: Text::from_str(alloc, ENFORCED_LABEL)?,
+        op: MatchOp::Eq,
+        value: namespace.clone()?,
+    };
+    Ok(PlainSelector {
+        name,
+        matchers: list_of(alloc, matcher)?,
+    })
+}
+
+fn enforced_labels(alloc: Global, namespace: &Text) -> Result<Tags, NoMemory>
+    ensures { IfOk result (λ labels. labels ≡ (spec.ENFORCED_LABEL, namespace.now) ∷ []) }
+{
+    let mut labels = Tags::new(alloc);
+    labels.set(ENFORCED_LABEL, namespace.as_str())?;
+    Ok(labels)
+}
+
+fn list_of<T: Drop>(alloc: Global, item: T) -> Result<List<T>, NoMemory>
+    ensures { IfOk result (λ items. items ≡ item ∷ []) }
+{
+    let mut items = List::new(alloc);
+    items.push(item)?;
+    Ok(items)
+}
