@@ -1,0 +1,11 @@
+use Rattle.std.proofs.Common.{◌≡◌, map}
+use Rattle.serde_json.specs.View.{members_view}
+use Rattle.op_input.specs.Fields as spec
+use Rattle.op_input.proofs.fields.stray.Given as goal
+
+abbrev pub invariant-loop-name : goal.invariant-loop-name
+invariant-loop-name l =
+    goal.iterator-loop-name.can_next l.name-iterator ×
+    goal.iterator-loop-name.is_finite l.name-iterator ×
+    (spec.stray (map (λ name. name.now) l.names) (members_view l.initial.name-iterator)
+    ≡ spec.stray (map (λ name. name.now) l.names) (members_view l.name-iterator))

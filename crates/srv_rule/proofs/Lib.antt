@@ -1,0 +1,3 @@
+mod MatcherLemmas
+mod RunLemmas
+mod StaleLemmas

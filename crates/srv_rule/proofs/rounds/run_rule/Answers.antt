@@ -1,0 +1,9 @@
+-- Nothing was stored yet.
+use Rattle.srv_rule.specs.Running.{placed_as}
+use Rattle.srv_rule.specs.Rounds.{ran_of}
+use Rattle.srv_rule.proofs.RunLemmas.{nothing_stored, on_err_anyway}
+use Rattle.srv_rule.proofs.rounds.run_rule.Goals as goal
+
+pub returns-in_err-results_of-clause-err : goal.returns-in_err-results_of-clause-err
+returns-in_err-results_of-clause-err c = on_err_anyway c.from_residual.result
+    (nothing_stored c.args.t c.args.before.now (ran_of c.args.store.now c.args.progress.now.states c.args.progress.now.failed) (placed_as c.args.place.now))

@@ -1,0 +1,4 @@
+pub mod Evaluated
+pub mod Recorded
+pub mod Rounds
+pub mod Running

@@ -1,0 +1,29 @@
+-- What a recording rule makes of the elements of its expression's vector.
+use Rattle.std.specs.Prelude.{ℕ, List, [], ◌∷◌, Option, Some, None, fold, if◌then◌else◌}
+use Rattle.op_base.specs.Maps.{without_entry}
+use Rattle.op_base.specs.Labels.{Texts, labels_with}
+use Rattle.srv_store.specs.LabelMaps.{has_labels, with_value}
+use Rattle.srv_store.specs.Stores.{Vector}
+use Rattle.srv_rule.specs.Evaluated.{NAME}
+
+-- labels with others put over them; an empty value removes a label
+abbrev pub with_labels : Texts → Texts → Texts
+with_labels labels others = fold (λ put label. labels_with put label.0 label.1) labels others
+
+-- the labels of a result: without `__name__`, then with the recorded name, then with the rule's labels,
+-- and what is forced over all
+abbrev pub recorded_labels : List ℕ → Texts → Texts → Texts → Texts
+recorded_labels name labels force element =
+    with_labels (with_labels (labels_with (without_entry element NAME) NAME name) labels) force
+
+-- the results by their label sets, or none where two have equal ones
+abbrev pub gathered : List ℕ → Texts → Texts → Vector → Vector → Option Vector
+gathered name labels force results [] = Some results
+gathered name labels force results (element ∷ elements) =
+    if has_labels results (recorded_labels name labels force element.0)
+    then None
+    else gathered name labels force (with_value results (recorded_labels name labels force element.0) element.1) elements
+
+-- the results of a rule
+abbrev pub results_of : List ℕ → Texts → Texts → Vector → Option Vector
+results_of name labels force elements = gathered name labels force [] elements

@@ -1,0 +1,15 @@
+//! Rule rounds: what the rules of a configuration record at a tick.
+//!
+//! `specs/Rounds.antt` says what a round is; `specs/Recorded.antt` what a rule makes of a vector.
+#![tactic(auto)]
+
+mod results;
+mod rounds;
+mod states;
+#[cfg(test)]
+mod tests;
+mod view;
+
+pub use rounds::round;
+pub use states::RuleStates;
+pub use view::{FailedRule, RoundView};

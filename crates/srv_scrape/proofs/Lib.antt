@@ -1,0 +1,3 @@
+pub mod ExportLemmas
+pub mod LabelLemmas
+pub mod ListLemmas

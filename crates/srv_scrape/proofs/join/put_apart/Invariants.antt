@@ -1,0 +1,6 @@
+use Rattle.std.proofs.Common.{◌≡◌, take}
+use Rattle.srv_scrape.specs.Joined as spec
+use Rattle.srv_scrape.proofs.join.put_apart.Given as goal
+
+abbrev pub invariant-loop-place : goal.invariant-loop-place
+invariant-loop-place l = l.labels ≡ spec.scraped_over l.initial.labels (spec.apart l.target (take l.place l.scraped))

@@ -1,0 +1,5 @@
+pub mod Joined
+pub mod Pages
+pub mod Scraped
+pub mod Targets
+pub mod Ticks

@@ -1,0 +1,66 @@
+-- The entries of one scrape. After Prometheus on scrapes and the series `up`.
+use Rattle.std.specs.Prelude.{ℕ, ℤ, pos, List, [], ◌∷◌, ◌++◌, Bool, Option, Some, None, codes, map, if◌then◌else◌}
+use Rattle.std.specs.List.{list_all, filter_map}
+use Rattle.op_base.specs.declared.moment.Moment.{Moment}
+use Rattle.op_base.specs.Labels.{Texts, labels_with}
+use Rattle.op_relabel.specs.declared.step.Step.{Step}
+use Rattle.op_relabel.specs.Relabelled.{relabelled}
+use Rattle.srv_store.specs.declared.entry.Entry.{Entry}
+use Rattle.srv_scrape.specs.declared.pages.Sample.{Sample}
+use Rattle.srv_scrape.specs.declared.target.Target.{Target}
+use Rattle.srv_scrape.specs.Joined.{joined, has_name, scraped_over}
+
+abbrev pub NAME : List ℕ
+NAME = codes "__name__"
+
+-- how samples become entries: whether a scraped label wins, the metric steps, and labels put over all
+pub record Manner : Type 0 where
+  pub honor : Bool
+  pub steps : List Step
+  pub force : Texts
+
+-- a sample that is left
+abbrev pub Left : Type 0
+Left = Sample
+
+-- a sample without any label counts as dropped
+abbrev pub left_with : ℤ → Texts → Option Left
+left_with value [] = None
+left_with value (label ∷ labels) = Some (record { labels = label ∷ labels; value = value })
+
+-- what is left of a sample: joined, then through the steps, then with the forced labels
+abbrev pub left_after : Texts → ℤ → Option Texts → Option Left
+left_after force value None = None
+left_after force value (Some labels) = left_with value (scraped_over labels force)
+
+abbrev pub left_of : Manner → Target → Sample → Option Left
+left_of manner target sample =
+    left_after manner.force sample.value (relabelled manner.steps (joined manner.honor target.labels sample.labels))
+
+-- the samples that are left
+abbrev pub all_left : Manner → Target → List Sample → List Left
+all_left manner target samples = filter_map (left_of manner target) samples
+
+-- each has a name; else the scrape fails
+abbrev pub all_named : List Left → Bool
+all_named samples = list_all (λ sample. has_name sample.labels NAME) samples
+
+-- the series `up` of a target: 1, or 0 where the scrape failed
+abbrev pub up_entry : Target → Moment → ℤ → Entry
+up_entry target t value = record { labels = labels_with target.labels NAME (codes "up"); at = t; value = Some value }
+
+abbrev pub failed_scrape : Target → Moment → List Entry
+failed_scrape target t = up_entry target t (pos 0) ∷ []
+
+abbrev pub entry_of : Moment → Left → Entry
+entry_of t sample = record { labels = sample.labels; at = t; value = Some sample.value }
+
+-- the entries of samples, and then `up`
+abbrev pub entries_of : Target → Moment → List Left → List Entry
+entries_of target t samples =
+    if all_named samples then map (entry_of t) samples ++ up_entry target t (pos 1) ∷ [] else failed_scrape target t
+
+-- the entries of one scrape of a target whose page is given; without samples it fails
+abbrev pub scraped : Manner → Target → Option (List Sample) → Moment → List Entry
+scraped manner target None t = failed_scrape target t
+scraped manner target (Some samples) t = entries_of target t (all_left manner target samples)

@@ -1,0 +1,93 @@
+ghost use Rattle.std.specs.Prelude.{◌≡◌, ◌++◌, IfOk, OnOk};
+ghost use Rattle.op_relabel.specs.Relabelled.{HasPatterns};
+ghost use Rattle.srv_scrape.specs.Pages.{page_at};
+ghost use Rattle.srv_scrape.specs.Scraped.{scraped};
+ghost use Rattle.srv_scrape.specs.Ticks as spec;
+
+use crate::discovery::targets;
+use crate::pages::Pages;
+use crate::scraping::scrape;
+use crate::target::Target;
+use cfg_types::Job;
+use op_base::{List, Moment, NoMemory};
+use srv_store::Entry;
+use std::alloc::Global;
+
+/// The entries of all scrapes of a tick, job after job, and of each job target after target.
+pub fn scrape_all(
+    alloc: Global,
+    jobs: &List<Job>,
+    pages: &Pages,
+    t: Moment,
+) -> Result<List<Entry>, NoMemory>
+    requires { spec.HavePatterns jobs.now }
+    ensures { IfOk result (λ entries. entries ≡ spec.scraped_entries pages.now t jobs.now) }
+{
+    let mut entries = List::new(alloc);
+    push_jobs(alloc, &mut entries, jobs.as_slice(), pages, t)?;
+    Ok(entries)
+}
+
+fn push_jobs(
+    alloc: Global,
+    entries: &mut List<Entry>,
+    jobs: &[Job],
+    pages: &Pages,
+    t: Moment,
+) -> Result<(), NoMemory>
+    requires { spec.HavePatterns jobs.now }
+    ensures { OnOk result (entries.new ≡ entries.old ++ spec.scraped_entries pages.now t jobs.now) }
+{
+    for job in jobs {
+        push_job(alloc, entries, job, pages, t)?;
+    }
+    Ok(())
+}
+
+fn push_job(
+    alloc: Global,
+    entries: &mut List<Entry>,
+    job: &Job,
+    pages: &Pages,
+    t: Moment,
+) -> Result<(), NoMemory>
+    requires targets { HasPatterns job.now.relabel_configs }
+    requires samples { HasPatterns job.now.metric_relabel_configs }
+    ensures { OnOk result (entries.new ≡ entries.old ++ spec.job_entries pages.now t job.now) }
+{
+    let targets = targets(alloc, job)?;
+    push_scrapes(alloc, entries, job, targets.as_slice(), pages, t)
+}
+
+fn push_scrapes(
+    alloc: Global,
+    entries: &mut List<Entry>,
+    job: &Job,
+    targets: &[Target],
+    pages: &Pages,
+    t: Moment,
+) -> Result<(), NoMemory>
+    requires { HasPatterns job.now.metric_relabel_configs }
+    ensures { OnOk result (entries.new ≡ entries.old ++ spec.target_entries pages.now t job.now targets.now) }
+{
+    for target in targets {
+        push_scrape(alloc, entries, job, target, pages, t)?;
+    }
+    Ok(())
+}
+
+fn push_scrape(
+    alloc: Global,
+    entries: &mut List<Entry>,
+    job: &Job,
+    target: &Target,
+    pages: &Pages,
+    t: Moment,
+) -> Result<(), NoMemory>
+    requires { HasPatterns job.now.metric_relabel_configs }
+    ensures { OnOk result (entries.new ≡ entries.old
+        ++ scraped (spec.manner_of job.now) target.now (page_at pages.now target.now.url) t) }
+{
+    let scraped = scrape(alloc, job, target, pages, t)?;
+    entries.append(scraped)
+}

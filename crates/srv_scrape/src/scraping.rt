@@ -1,0 +1,165 @@
+ghost use Rattle.std.specs.Prelude.{◌≡◌, ◌++◌, ◌∷◌, [], map, IfOk, OnOk};
+ghost use Rattle.std.specs.List.{filter_map};
+ghost use Rattle.op_relabel.specs.Relabelled.{HasPatterns};
+ghost use Rattle.srv_scrape.specs.Pages.{page_at};
+ghost use Rattle.srv_scrape.specs.Scraped as spec;
+ghost use Rattle.srv_scrape.specs.Ticks.{manner_of};
+
+use crate::join::joined;
+use crate::labels::has_name;
+use crate::pages::{Pages, Sample};
+use crate::target::Target;
+use cfg_types::Job;
+use op_base::{Labels, List, Moment, NoMemory};
+use op_relabel::relabel;
+use srv_store::Entry;
+use std::alloc::Global;
+
+/// The entries of one scrape of a target: the samples of its page that the job's steps leave, and
+/// then `up`, which is 1, or 0 alone where the scrape failed. It takes time linear in the samples,
+/// but for factors that are logarithmic in the pages and for look-ups in a sample's own labels.
+pub fn scrape(
+    alloc: Global,
+    job: &Job,
+    target: &Target,
+    pages: &Pages,
+    t: Moment,
+) -> Result<List<Entry>, NoMemory>
+    requires { HasPatterns job.now.metric_relabel_configs }
+    ensures { IfOk result (λ entries. entries
+        ≡ spec.scraped (manner_of job.now) target.now (page_at pages.now target.now.url) t) }
+{
+    match pages.get(target.url.as_str()) {
+        Some(samples) => {
+            let left = all_left(alloc, job, target, samples.as_slice())?;
+            entries_of(alloc, target, t, left)
+        }
+        None => failed_scrape(alloc, target, t),
+    }
+}
+
+// What the job's steps leave of the samples.
+fn all_left(
+    alloc: Global,
+    job: &Job,
+    target: &Target,
+    samples: &[Sample],
+) -> Result<List<Sample>, NoMemory>
+    requires { HasPatterns job.now.metric_relabel_configs }
+    ensures { IfOk result (λ left. left ≡ spec.all_left (manner_of job.now) target.now samples.now) }
+{
+    let mut left = List::new(alloc);
+    for sample in samples {
+        push_left(alloc, &mut left, job, target, sample)?;
+    }
+    Ok(left)
+}
+
+fn push_left(
+    alloc: Global,
+    left: &mut List<Sample>,
+    job: &Job,
+    target: &Target,
+    sample: &Sample,
+) -> Result<(), NoMemory>
+    requires { HasPatterns job.now.metric_relabel_configs }
+    ensures { OnOk result (left.new
+        ≡ left.old ++ filter_map (spec.left_of (manner_of job.now) target.now) (sample.now ∷ [])) }
+{
+    match left_of(alloc, job, target, sample)? {
+        Some(sample) => left.push(sample),
+        None => Ok(()),
+    }
+}
+
+fn left_of(
+    alloc: Global,
+    job: &Job,
+    target: &Target,
+    sample: &Sample,
+) -> Result<Option<Sample>, NoMemory>
+    requires { HasPatterns job.now.metric_relabel_configs }
+    ensures { IfOk result (λ left. left ≡ spec.left_of (manner_of job.now) target.now sample.now) }
+{
+    let labels = joined(alloc, job.honor_labels, &target.labels, &sample.labels)?;
+    match relabel(alloc, &job.metric_relabel_configs, &labels)? {
+        Some(labels) => Ok(left_with(labels, sample.value)),
+        None => Ok(None),
+    }
+}
+
+// A sample without any label counts as dropped.
+fn left_with(labels: Labels, value: i64) -> Option<Sample>
+    ensures { result ≡ spec.left_with value labels }
+{
+    if labels.len() == 0 {
+        None
+    } else {
+        Some(Sample { labels, value })
+    }
+}
+
+// The entries of the samples, and then `up`. Where a sample has no name, the scrape fails.
+fn entries_of(
+    alloc: Global,
+    target: &Target,
+    t: Moment,
+    samples: List<Sample>,
+) -> Result<List<Entry>, NoMemory>
+    ensures { IfOk result (λ entries. entries ≡ spec.entries_of target.now t samples) }
+{
+    if !all_named(samples.as_slice()) {
+        return failed_scrape(alloc, target, t);
+    }
+    let mut entries = List::new(alloc);
+    push_entries(&mut entries, t, samples)?;
+    entries.push(up_entry(target, t, 1)?)?;
+    Ok(entries)
+}
+
+fn all_named(samples: &[Sample]) -> bool
+    ensures { result ≡ spec.all_named samples.now }
+{
+    samples
+        .iter()
+        .all(|sample| has_name(&sample.labels, "__name__"))
+}
+
+fn push_entries(entries: &mut List<Entry>, t: Moment, samples: List<Sample>) -> Result<(), NoMemory>
+    ensures { OnOk result (entries.new ≡ entries.old ++ map (spec.entry_of t) samples) }
+{
+    for sample in samples.into_vec() {
+        entries.push(entry_of(t, sample))?;
+    }
+    Ok(())
+}
+
+fn entry_of(t: Moment, sample: Sample) -> Entry
+    ensures { result ≡ spec.entry_of t sample }
+{
+    Entry {
+        labels: sample.labels,
+        at: t,
+        value: Some(sample.value),
+    }
+}
+
+fn failed_scrape(alloc: Global, target: &Target, t: Moment) -> Result<List<Entry>, NoMemory>
+    ensures { IfOk result (λ entries. entries ≡ spec.failed_scrape target.now t) }
+{
+    let mut entries = List::new(alloc);
+    entries.push(up_entry(target, t, 0)?)?;
+    Ok(entries)
+}
+
+fn up_entry(target: &Target, t: Moment, value: i64) -> Result<Entry, NoMemory>
+    ensures { IfOk result (λ entry. entry ≡ spec.up_entry target.now t value) }
+{
+    let mut labels = target.labels.copy()?;
+    labels.set("__name__", "up")?;
+    Ok(Entry {
+        labels,
+        at: t,
+        value: Some(value),
+    })
+}

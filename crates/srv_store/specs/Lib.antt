@@ -1,0 +1,2 @@
+pub mod LabelMaps
+pub mod Stores

@@ -1,0 +1,15 @@
+//! The store of samples: a list of entries, and what is looked up in it.
+//!
+//! `specs/Stores.antt` says what a store takes and what the newest entries are; `LabelMap` is a map
+//! from label sets in label order.
+#![tactic(auto)]
+
+mod entry;
+mod map;
+mod store;
+#[cfg(test)]
+mod tests;
+
+pub use entry::Entry;
+pub use map::LabelMap;
+pub use store::Store;
