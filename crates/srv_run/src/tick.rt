@@ -1,0 +1,65 @@
+ghost use Rattle.std.specs.Prelude.{◌≡◌, drop, IfOk, OnOk, OnErr};
+ghost use Rattle.srv_store.specs.Stores.{IsTick, with_all};
+ghost use Rattle.srv_scrape.specs.Ticks as scrapes;
+ghost use Rattle.srv_run.specs.Served.{CanRun};
+ghost use Rattle.srv_run.specs.Ticking.{left, ticked_as, tick_over};
+
+use cfg_types::{Config, Job};
+use op_base::{Labels, List, Moment, NoMemory};
+use srv_rule::{FailedRule, RuleStates, round};
+use srv_scrape::{Pages, scrape_all, tick_entries};
+use srv_store::{Entry, Store};
+use std::alloc::Global;
+
+/// Scrapes everything at the moment and then runs all rules. Answers the label sets that the scrapes
+/// gave, and the rules that failed.
+pub fn run_tick(
+    alloc: Global,
+    config: &Config,
+    pages: &Pages,
+    scraped: &List<Labels>,
+    store: &mut Store,
+    states: &mut RuleStates,
+    t: Moment,
+) -> Result<(List<Labels>, List<FailedRule>), NoMemory>
+    requires config { CanRun config.now }
+    requires moment { IsTick t }
+    ensures { IfOk result (λ given. ticked_as store.old (left store.new given.0 states.new) given.1
+        ≡ tick_over config.now pages.now (left store.old scraped.now states.old) t) }
+{
+    let given = store_scrapes(alloc, &config.prometheus.jobs, pages, scraped, store, t)?;
+    let view = round(alloc, &config.rules, store, states, t)?;
+    Ok((given, view.failed))
+}
+
+// Stores the entries of all scrapes with the staleness markers. Answers the label sets that are given now.
+fn store_scrapes(
+    alloc: Global,
+    jobs: &List<Job>,
+    pages: &Pages,
+    before: &List<Labels>,
+    store: &mut Store,
+    t: Moment,
+) -> Result<List<Labels>, NoMemory>
+    requires { scrapes.HavePatterns jobs.now }
+    ensures given { IfOk result (λ given. given
+        ≡ scrapes.label_sets (scrapes.scraped_entries pages.now t jobs.now)) }
+    ensures ok { OnOk result (store.new ≡ with_all store.old
+        (scrapes.tick_entries t before.now (scrapes.scraped_entries pages.now t jobs.now))) }
+{
+    let scraped = scrape_all(alloc, jobs, pages, t)?;
+    let (entries, given) = tick_entries(alloc, t, before, scraped)?;
+    store.add_all(entries)?;
+    Ok(given)
+}
+
+/// The entries from the place on.
+pub fn entries_from(entries: &[Entry], place: usize) -> &[Entry]
+    ensures { result.now ≡ drop place entries.now }
+{
+    if place < entries.len() {
+        &entries[place..]
+    } else {
+        &[]
+    }
+}

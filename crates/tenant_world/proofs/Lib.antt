@@ -1,0 +1,14 @@
+mod EventLaws
+mod KeyLemmas
+mod LineLaws
+mod MemoryLaws
+mod NameLemmas
+mod ObjectLaws
+mod OrderLaws
+mod ResultLaws
+mod RoundLaws
+mod RulesLaws
+mod RunLaws
+mod ScrapeLaws
+mod StoreLaws
+mod TickLaws

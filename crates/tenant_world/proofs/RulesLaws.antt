@@ -1,0 +1,208 @@
+-- All rules of a round, one after the other, and the rules that are gone.
+use Rattle.std.proofs.Common.{◌≡◌, ℕ, ◌<◌, Bool, true, false, not, cond, T, List, [], ◌∷◌, ◌++◌, map, filter, fold, length, is_some, unwrap_or, Option, None, Some, IfSome, nat_eq, refl, sym, ap, subst, ◌∙◌, append-nil, append_assoc}
+use Rattle.std.specs.List.{AllByRecursion}
+use Rattle.std.specs.Cmp.Lexicographic.{pointwise, bytes_decides}
+use Rattle.std.specs.FinMap.Entries.{find, is_sorted, is_sorted-put, find-where_key}
+use Rattle.op_base.specs.declared.moment.Moment.{Moment}
+use Rattle.op_base.specs.Labels.{Texts}
+use Rattle.cfg_types.specs.declared.config.RuleFile.{RuleFile}
+use Rattle.srv_store.specs.LabelMaps.{labels_in}
+use Rattle.srv_store.specs.Stores.{Store, Vector, with_all, fresh, of_namespace}
+use Rattle.srv_rule.specs.declared.states.RuleId.{RuleId}
+use Rattle.srv_rule.specs.Evaluated.{vector_of}
+use Rattle.srv_rule.specs.Recorded.{results_of}
+use Rattle.srv_rule.specs.Rounds.{States, Ran, Placed, id_cmp, id_of, last_of, placed_in, placed_of, stale_entries, value_entries, after_results, after_rule, after_rules, gone, gone_entries, without_gone, round_of}
+use Rattle.op_thin.specs.declared.rule.ThinRule.{ThinRule}
+use Rattle.op_thin.specs.Compiled.{enforced_expr, file_of, ENFORCED_LABEL}
+use Rattle.tenant_world.specs.Tenants.{home_label, written_rule, written_file}
+use Rattle.tenant_world.proofs.KeyLemmas.{alike}
+use Rattle.tenant_world.proofs.ResultLaws.{Own, same_name, vector-of, gathered-of, gathered-own}
+use Rattle.tenant_world.proofs.RoundLaws.{id_total, id_same, enforced_placed, written_placed, of_home, states_of, ran_of, OwnSets, OwnStates, own-find, own-state, own-labels, stale-seen, stale-unseen, own-results, other-results}
+use Rattle.tenant_world.proofs.StoreLaws.{of-append, with_all-of}
+
+-- what a rule of the configuration makes of the store, and what the rule as it is written makes of it
+abbrev given : ThinRule → Store → Moment → Option Vector
+given r store t = results_of r.record_name ((ENFORCED_LABEL, r.namespace) ∷ []) [] (vector_of [] (enforced_expr r) store t)
+
+given-of : (r : ThinRule) (store : Store) (t : Moment)
+    → given r store t ≡ results_of r.record_name [] (home_label r.namespace) (vector_of (home_label r.namespace) (written_rule r).expr (of_namespace r.namespace store) t)
+given-of r store t =
+    gathered-of r.namespace r.record_name [] (vector_of [] (enforced_expr r) store t)
+    ∙ ap (results_of r.record_name [] (home_label r.namespace)) (vector-of r store t)
+
+given-own : (r : ThinRule) (store : Store) (t : Moment) → 0 < length r.namespace → IfSome (given r store t) (Own r.namespace)
+given-own r store t some = gathered-own r.namespace r.record_name [] (vector_of [] (enforced_expr r) store t) some tt
+
+abbrev server_rule : Moment → States → Ran → ThinRule → Ran
+server_rule t before ran r = after_rule [] [] t before ran (enforced_placed r)
+
+abbrev own_rule : List ℕ → Moment → States → Ran → ThinRule → Ran
+own_rule n t before ran r = after_rule (home_label n) (home_label n) t before ran (written_placed r)
+
+last-of : (n : List ℕ) (states : States) (id : RuleId) → of_home n id ≡ true → last_of (states_of n states) id ≡ last_of states id
+last-of n states id own = find-where_key id_cmp (of_home n) id (alike id_cmp id_same (of_home n) id) states ∙ ap (λ b. cond b (find id_cmp id states) None) own
+
+own-rule : (r : ThinRule) (t : Moment) (before : States) (ran : Ran) → 0 < length r.namespace → OwnStates before → T (is_sorted id_cmp ran.states)
+    → ran_of r.namespace (server_rule t before ran r) ≡ own_rule r.namespace t (states_of r.namespace before) (ran_of r.namespace ran) r
+own-rule r t before ran some states h =
+    let id = id_of (enforced_placed r) in
+    own-results r t ran (last_of before id) (given r ran.store t) (given-own r ran.store t some) (own-find before id states) h
+    ∙ ap (after_results t (ran_of r.namespace ran) (written_placed r) (last_of before id)) (given-of r ran.store t)
+    ∙ ap (λ last. after_results t (ran_of r.namespace ran) (written_placed r) last
+    (results_of r.record_name [] (home_label r.namespace) (vector_of (home_label r.namespace) (written_rule r).expr (of_namespace r.namespace ran.store) t)))
+    (sym (last-of r.namespace before id (same_name r.namespace)))
+
+other-rule : (n : List ℕ) (r : ThinRule) (t : Moment) (before : States) (ran : Ran) → pointwise nat_eq n r.namespace ≡ false → 0 < length r.namespace → OwnStates before → T (is_sorted id_cmp ran.states)
+    → ran_of n (server_rule t before ran r) ≡ ran_of n ran
+other-rule n r t before ran other some states h =
+    let id = id_of (enforced_placed r) in
+    other-results n r t other ran (last_of before id) (given r ran.store t) (given-own r ran.store t some) (own-find before id states) h
+
+-- states stay in order and their sets their own
+sorted-results : (t : Moment) (ran : Ran) (r : ThinRule) (last : Option (List Texts)) (results : Option Vector) → T (is_sorted id_cmp ran.states)
+    → T (is_sorted id_cmp (after_results t ran (enforced_placed r) last results).states)
+sorted-results t ran r None None h = h
+sorted-results t ran r (Some sets) None h = is_sorted-put id_cmp id_total (id_of (enforced_placed r)) sets ran.states h
+sorted-results t ran r last (Some results) h = is_sorted-put id_cmp id_total (id_of (enforced_placed r)) (labels_in results) ran.states h
+
+own-after : (t : Moment) (ran : Ran) (r : ThinRule) (last : Option (List Texts)) (results : Option Vector) → IfSome last (OwnSets r.namespace) → IfSome results (Own r.namespace)
+    → OwnStates ran.states → OwnStates (after_results t ran (enforced_placed r) last results).states
+own-after t ran r None None sets own h = h
+own-after t ran r (Some last) None sets own h = own-state ran.states (id_of (enforced_placed r)) last sets h
+own-after t ran r last (Some results) sets own h = own-state ran.states (id_of (enforced_placed r)) (labels_in results) (own-labels r.namespace results own) h
+
+abbrev pub HaveHomes : List ThinRule → Type 0
+HaveHomes rules = AllByRecursion (λ (r : ThinRule). 0 < length r.namespace) rules
+
+abbrev pub is_of : List ℕ → ThinRule → Bool
+is_of n r = pointwise nat_eq n r.namespace
+
+module _ (t : Moment) (before : States) (states : OwnStates before) where
+  -- what all rules do is seen as what the own rules do
+  rules-of : (n : List ℕ) (rules : List ThinRule) (ran : Ran) → HaveHomes rules → T (is_sorted id_cmp ran.states)
+      → ran_of n (fold (server_rule t before) ran rules) ≡ fold (own_rule n t (states_of n before)) (ran_of n ran) (filter (is_of n) rules)
+  rules-of n [] ran homes h = refl
+  rules-of n (r ∷ rules) ran homes h =
+      let next = sorted-results t ran r (last_of before (id_of (enforced_placed r))) (given r ran.store t) h in
+      let rest = rules-of n rules (server_rule t before ran r) homes.1 next in
+      elim (pointwise nat_eq n r.namespace) as (λ b. pointwise nat_eq n r.namespace ≡ b → ran_of n (fold (server_rule t before) (server_rule t before ran r) rules)
+      ≡ fold (own_rule n t (states_of n before)) (ran_of n ran) (cond b (r ∷ filter (is_of n) rules) (filter (is_of n) rules))) [
+        | true ↦ λ own. rest ∙ ap (λ (x : Ran). fold (own_rule n t (states_of n before)) x (filter (is_of n) rules))
+            (subst (λ m. ran_of m (server_rule t before ran r) ≡ own_rule m t (states_of m before) (ran_of m ran) r) (sym ((bytes_decides n r.namespace).0 own))
+            (own-rule r t before ran homes.0 states h))
+        | false ↦ λ other. rest ∙ ap (λ (x : Ran). fold (own_rule n t (states_of n before)) x (filter (is_of n) rules)) (other-rule n r t before ran other homes.0 states h)
+      ] refl
+
+  rules-sorted : (rules : List ThinRule) (ran : Ran) → T (is_sorted id_cmp ran.states) → T (is_sorted id_cmp (fold (server_rule t before) ran rules).states)
+  rules-sorted [] ran h = h
+  rules-sorted (r ∷ rules) ran h =
+      rules-sorted rules (server_rule t before ran r) (sorted-results t ran r (last_of before (id_of (enforced_placed r))) (given r ran.store t) h)
+
+  rules-own : (rules : List ThinRule) (ran : Ran) → HaveHomes rules → OwnStates ran.states → OwnStates (fold (server_rule t before) ran rules).states
+  rules-own [] ran homes h = h
+  rules-own (r ∷ rules) ran homes h =
+      let id = id_of (enforced_placed r) in
+      rules-own rules (server_rule t before ran r) homes.1
+      (own-after t ran r (last_of before id) (given r ran.store t) (own-find before id states) (given-own r ran.store t homes.0) h)
+
+-- the rules of all files
+placed-all : (f : ThinRule → RuleFile) (g : ThinRule → Placed) → ((r : ThinRule) → placed_in (f r) ≡ g r ∷ []) → (rules : List ThinRule) → placed_of (map f rules) ≡ map g rules
+placed-all f g one [] = refl
+placed-all f g one (r ∷ rules) = ap (λ l. l ++ placed_of (map f rules)) (one r) ∙ ap (λ l. g r ∷ l) (placed-all f g one rules)
+
+fold-map : {A B C : Type 0} (f : C → B → C) (g : A → B) (c : C) (xs : List A) → fold f c (map g xs) ≡ fold (λ d x. f d (g x)) c xs
+fold-map f g c [] = refl
+fold-map f g c (x ∷ xs) = fold-map f g (f c (g x)) xs
+
+abbrev beginning_ran : Store → Ran
+beginning_ran store = record { store = store; states = []; failed = [] }
+
+server-rules : (rules : List ThinRule) (t : Moment) (before : States) (store : Store)
+    → after_rules (map file_of rules) [] [] t before store ≡ fold (server_rule t before) (beginning_ran store) rules
+server-rules rules t before store =
+    ap (fold (after_rule [] [] t before) (beginning_ran store)) (placed-all file_of enforced_placed (λ r. refl) rules)
+    ∙ fold-map (after_rule [] [] t before) enforced_placed (beginning_ran store) rules
+
+own-rules : (n : List ℕ) (rules : List ThinRule) (t : Moment) (before : States) (store : Store)
+    → after_rules (map written_file rules) (home_label n) (home_label n) t before store ≡ fold (own_rule n t before) (beginning_ran store) rules
+own-rules n rules t before store =
+    ap (fold (after_rule (home_label n) (home_label n) t before) (beginning_ran store)) (placed-all written_file written_placed (λ r. refl) rules)
+    ∙ fold-map (after_rule (home_label n) (home_label n) t before) written_placed (beginning_ran store) rules
+
+-- the staleness markers of rules that are gone
+gone-of : (n : List ℕ) (t : Moment) (before after : States) → OwnStates before
+    → of_namespace n (gone_entries t (gone before after)) ≡ gone_entries t (gone (states_of n before) (states_of n after))
+gone-of n t [] after h = refl
+gone-of n t (s ∷ before) after h =
+    let rest = gone-of n t before after h.1 in
+    elim (of_home n s.0) as (λ b. of_home n s.0 ≡ b → of_namespace n (gone_entries t (cond (not (is_some (last_of after s.0))) (s ∷ gone before after) (gone before after)))
+    ≡ gone_entries t (gone (cond b (s ∷ states_of n before) (states_of n before)) (states_of n after))) [
+      | true ↦ λ own.
+          let sets = subst (λ m. OwnSets m s.1) (sym ((bytes_decides n s.0.namespace).0 own)) h.0 in
+          let seen = of-append n (stale_entries t s.1 []) (gone_entries t (gone before after))
+          ∙ ap (λ l. l ++ of_namespace n (gone_entries t (gone before after))) (stale-seen n t s.1 [] sets)
+          ∙ ap (λ l. stale_entries t s.1 [] ++ l) rest in
+          elim (not (is_some (last_of after s.0))) as (λ k. of_namespace n (gone_entries t (cond k (s ∷ gone before after) (gone before after)))
+          ≡ gone_entries t (cond k (s ∷ gone (states_of n before) (states_of n after)) (gone (states_of n before) (states_of n after)))) [
+            | true ↦ seen
+            | false ↦ rest
+          ] ∙ ap (λ o. gone_entries t (cond (not (is_some o)) (s ∷ gone (states_of n before) (states_of n after)) (gone (states_of n before) (states_of n after)))) (sym (last-of n after s.0 own))
+      | false ↦ λ other.
+          elim (not (is_some (last_of after s.0))) as (λ k. of_namespace n (gone_entries t (cond k (s ∷ gone before after) (gone before after)))
+          ≡ gone_entries t (gone (states_of n before) (states_of n after))) [
+            | true ↦ of-append n (stale_entries t s.1 []) (gone_entries t (gone before after))
+                ∙ ap (λ l. l ++ of_namespace n (gone_entries t (gone before after))) (stale-unseen n s.0.namespace t s.1 [] other h.0) ∙ rest
+            | false ↦ rest
+          ]
+    ] refl
+
+-- a round of all rules is seen as the round of the own rules
+pub round-of : (n : List ℕ) (rules : List ThinRule) (t : Moment) (before : States) (store : Store) → HaveHomes rules → OwnStates before
+    → ran_of n (round_of (map file_of rules) [] [] t before store)
+    ≡ round_of (map written_file (filter (is_of n) rules)) (home_label n) (home_label n) t (states_of n before) (of_namespace n store)
+round-of n rules t before store homes states =
+    let server = fold (server_rule t before) (beginning_ran store) rules in
+    let own = fold (own_rule n t (states_of n before)) (beginning_ran (of_namespace n store)) (filter (is_of n) rules) in
+    let seen : ran_of n (fold (server_rule t before) (beginning_ran store) rules)
+    ≡ fold (own_rule n t (states_of n before)) (beginning_ran (of_namespace n store)) (filter (is_of n) rules) =
+    rules-of t before states n rules (beginning_ran store) homes tt in
+    ap (λ ran. ran_of n (without_gone t before ran)) (server-rules rules t before store)
+    ∙ (λ i. record {
+      store = (with_all-of n server.store (gone_entries t (gone before server.states))
+          ∙ ap (with_all (of_namespace n server.store)) (gone-of n t before server.states states)) i;
+      states = states_of n server.states;
+      failed = (ran_of n server).failed;
+    })
+    ∙ ap (without_gone t (states_of n before)) seen
+    ∙ ap (without_gone t (states_of n before)) (sym (own-rules n (filter (is_of n) rules) t (states_of n before) (of_namespace n store)))
+
+-- what a round leaves is in order, and its namespace's
+pub round-own : (rules : List ThinRule) (t : Moment) (before : States) (store : Store) → HaveHomes rules → OwnStates before
+    → OwnStates (round_of (map file_of rules) [] [] t before store).states
+round-own rules t before store homes states =
+    subst (λ (ran : Ran). OwnStates ran.states) (sym (server-rules rules t before store)) (rules-own t before states rules (beginning_ran store) homes tt)
+
+-- a round adds to the store
+abbrev pub Adds : Store → Store → Type 0
+Adds old new = (added : Store) × (new ≡ old ++ added)
+
+pub adds-more : (a b c : Store) → Adds a b → Adds b c → Adds a c
+adds-more a b c (x, p) (y, q) = (x ++ y, q ∙ ap (λ l. l ++ y) p ∙ append_assoc a x y)
+
+results-add : (t : Moment) (ran : Ran) (placed : Placed) (last : Option (List Texts)) (results : Option Vector) → Adds ran.store (after_results t ran placed last results).store
+results-add t ran placed last None = ([], sym (append-nil ran.store))
+results-add t ran placed last (Some results) = (fresh ran.store (value_entries t results ++ stale_entries t (unwrap_or last []) results), refl)
+
+rules-add : (ambient force : Texts) (t : Moment) (before : States) (ran : Ran) (rules : List Placed) → Adds ran.store (fold (after_rule ambient force t before) ran rules).store
+rules-add ambient force t before ran [] = ([], sym (append-nil ran.store))
+rules-add ambient force t before ran (p ∷ rules) =
+    let next = after_rule ambient force t before ran p in
+    adds-more ran.store next.store (fold (after_rule ambient force t before) next rules).store
+    (results-add t ran p (last_of before (id_of p)) (results_of p.rule.name p.rule.labels force (vector_of ambient p.rule.expr ran.store t)))
+    (rules-add ambient force t before next rules)
+
+pub round-adds : (files : List RuleFile) (ambient force : Texts) (t : Moment) (before : States) (store : Store) → Adds store (round_of files ambient force t before store).store
+round-adds files ambient force t before store =
+    let ran = after_rules files ambient force t before store in
+    adds-more store ran.store (without_gone t before ran).store
+    (rules-add ambient force t before (beginning_ran store) (placed_of files)) (fresh ran.store (gone_entries t (gone before ran.states)), refl)
