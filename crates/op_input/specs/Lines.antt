@@ -41,7 +41,7 @@ is_not_yet d =
     || is_some (only_field (codes "delete") d)
     || is_some (only_field (codes "targets") d)
 
--- a key that isn't read yet; any other line has none that is known
+-- a line of a key that isn't read yet; any other one doesn't have exactly one key that is known
 abbrev pub other_line : Data → InputLine
 other_line d = if is_not_yet d then NotYet else Bad (broken UNKNOWN_KIND [])
 

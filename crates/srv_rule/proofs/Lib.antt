@@ -1,3 +1,3 @@
 mod MatcherLemmas
-mod RunLemmas
+pub mod RunLemmas
 mod StaleLemmas

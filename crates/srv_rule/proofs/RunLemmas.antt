@@ -147,3 +147,9 @@ module _ (files : List RuleFile) (t : Moment) (before states : States) (store : 
         (ap (with_all ran.store) added ∙ ap (λ (r : Ran). with_all r.store (gone_entries t (gone before r.states))) is ∙ sym ended)
         cut.1,
   )
+
+-- a round's store has that of before in front
+pub round_grows : (files : List RuleFile) (t : Moment) (before : States) (store : Store) → Grows store (stored (round_of files [] [] t before store))
+round_grows files t before store =
+    let cut = cut_after_rules files t before [] store [] refl refl (after_all t before (ran_of store [] []) (placed_of files)) refl in
+    grows-further store (after_all t before (ran_of store [] []) (placed_of files)).store (stored (round_of files [] [] t before store)) cut.0 cut.1

@@ -10,6 +10,6 @@ mod states;
 mod tests;
 mod view;
 
-pub use rounds::round;
+pub use rounds::{next_round, round};
 pub use states::RuleStates;
 pub use view::{FailedRule, RoundView};

@@ -45,6 +45,30 @@ pub fn round(
         (spec.stored (spec.round_of files.now [] [] t states.old store.old))) }
     ensures states { OnErr result (states.new ≡ states.old) }
 {
+    match next_round(alloc, files, store, states, t) {
+        Ok((next, view)) => {
+            *states = next;
+            Ok(view)
+        }
+        Err(NoMemory) => Err(NoMemory),
+    }
+}
+
+/// A round that leaves the states of before, and answers those that stand after it.
+pub fn next_round(
+    alloc: Global,
+    files: &List<RuleFile>,
+    store: &mut Store,
+    states: &RuleStates,
+    t: Moment,
+) -> Result<(RuleStates, RoundView), NoMemory>
+    requires patterns { spec.HavePatternsIn (spec.placed_of files.now) }
+    requires moment { IsTick t }
+    ensures ok { IfOk result (λ given. spec.ran_of store.new given.0 given.1.failed
+        ≡ spec.round_of files.now [] [] t states.now store.old) }
+    ensures err { OnErr result (AddsPrefix store.old store.new
+        (spec.stored (spec.round_of files.now [] [] t states.now store.old))) }
+{
     let mut progress = Progress {
         states: RuleStates::new(alloc),
         failed: List::new(alloc),
@@ -55,8 +79,7 @@ pub fn round(
         states: next,
         failed,
     } = progress;
-    *states = next;
-    Ok(RoundView { failed })
+    Ok((next, RoundView { failed }))
 }
 
 fn run_files(

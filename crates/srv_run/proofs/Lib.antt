@@ -1,3 +1,4 @@
-mod KnownLemmas
+pub mod KnownLemmas
 mod LineLemmas
+mod PrefixLemmas
 mod ShareLemmas

@@ -11,7 +11,7 @@ use Rattle.op_report.specs.declared.view.View.TheVariants.{Page as PageView}
 use Rattle.srv_scrape.specs.declared.pages.Sample.{Sample}
 use Rattle.srv_scrape.specs.Pages.{Pages}
 use Rattle.srv_scrape.specs.Ticks.{HavePatterns, scraped_entries}
-use Rattle.srv_store.specs.Stores.{IsTick}
+use Rattle.srv_store.specs.Stores.{IsTick, AddsPrefix}
 use Rattle.srv_rule.specs.Rounds.{HavePatternsIn, placed_of}
 use Rattle.srv_run.specs.declared.event.Event.{Event}
 use Rattle.srv_run.specs.declared.event.Event.TheVariants.{Known, Page, Tick}
@@ -108,3 +108,14 @@ late_event served (Tick t) = late served.last t
 -- each known namespace's name is well formed
 abbrev pub AreKnown : Map (Unit {0}) → Type 0
 AreKnown known = AllByRecursion (λ namespace. is_namespace namespace ≡ true) (keys_of known)
+
+-- after a refusal: the store has a first part of the entries that the event gives behind those of
+-- before, and all else is as it was
+pub record IsCutOff (old new : Serving) (whole : Served) : Type 0 where
+  pub config : new.config ≡ old.config
+  pub pages : new.served.pages ≡ old.served.pages
+  pub known : new.served.known ≡ old.served.known
+  pub scraped : new.served.memory.scraped ≡ old.served.memory.scraped
+  pub states : new.served.memory.states ≡ old.served.memory.states
+  pub last : new.served.last ≡ old.served.last
+  pub stored : AddsPrefix old.served.memory.store new.served.memory.store whole.memory.store

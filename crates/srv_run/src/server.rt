@@ -17,8 +17,8 @@ use std::alloc::Global;
 use std::marker::Model;
 
 /// A server: the configuration that was loaded last, and what it keeps of the events before.
-/// Contracts see both. Each configuration that it holds can be run, and each namespace that it knows
-/// is well formed. It keeps its allocator.
+/// Contracts see both. Each configuration that it holds can be run, each namespace that it knows is
+/// well formed, and its last tick is from 0 to 2^53. It keeps its allocator.
 #[derive(Debug, Drop)]
 pub struct Server {
     alloc: Global,
@@ -32,6 +32,8 @@ pub struct Server {
 }
 
 impl Model for Server {
+    ghost use Rattle.std.specs.Prelude.{IfSome};
+    ghost use Rattle.srv_store.specs.Stores.{IsTick};
     ghost use Rattle.srv_run.specs.Served.{Serving, CanRun, AreKnown};
 
     ghost Value = { Serving };
@@ -46,7 +48,7 @@ impl Model for Server {
       };
     } };
 
-    ghost invariant = { λ server. CanRun server.config × AreKnown server.known };
+    ghost invariant = { λ server. CanRun server.config × AreKnown server.known × IfSome server.last IsTick };
 }
 
 impl Server {
@@ -90,6 +92,8 @@ impl Server {
             → spec.late_event self.old.served event.now ≡ Some last) }
         ensures late_leaves { IfErr result (λ fault. (last : _) → fault ≡ EventFault.LateTick last
             → self.new ≡ self.old) }
+        ensures cut_off { OnErr result (spec.IsCutOff self.old self.new
+            (spec.served_after self.old.config self.old.served event.now)) }
     {
         match event {
             Event::Known(namespace) => Ok(self.know(namespace)?),
@@ -122,7 +126,7 @@ impl Server {
     {
         let reports = page_reports(self.alloc, url)?;
         let samples = copy_page(self.alloc, samples)?;
-        self.pages.set(self.alloc, url.as_str(), samples)?;
+        self.pages.set(url.as_str(), samples)?;
         Ok(reports)
     }
 
@@ -138,6 +142,8 @@ impl Server {
             → spec.late self.old.served.last t ≡ Some last) }
         ensures late_leaves { IfErr result (λ fault. (last : _) → fault ≡ EventFault.LateTick last
             → self.new ≡ self.old) }
+        ensures cut_off { OnErr result (spec.IsCutOff self.old self.new
+            (spec.served_after self.old.config self.old.served (Event.Tick t))) }
     {
         match late(self.last, t) {
             Some(last) => Err(EventFault::LateTick(last)),
@@ -153,20 +159,23 @@ impl Server {
         ensures served { OnOk result (self.new
             ≡ record self.old { served = spec.served_after self.old.config self.old.served (Event.Tick t) }) }
         ensures named { IfOk result AreNamed }
+        ensures cut_off { OnErr result (spec.IsCutOff self.old self.new
+            (spec.served_after self.old.config self.old.served (Event.Tick t))) }
     {
         let before = self.store.len();
-        let (scraped, failed) = run_tick(
+        let (scraped, states, failed) = run_tick(
             self.alloc,
             &self.config,
             &self.pages,
             &self.scraped,
             &mut self.store,
-            &mut self.states,
+            &self.states,
             t,
         )?;
         let added = entries_from(self.store.entries(), before);
         let reports = tick_reports(self.alloc, &self.known, failed.as_slice(), added, t)?;
         self.scraped = scraped;
+        self.states = states;
         self.last = Some(t);
         Ok(reports)
     }

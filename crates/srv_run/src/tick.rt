@@ -1,35 +1,37 @@
 ghost use Rattle.std.specs.Prelude.{◌≡◌, drop, IfOk, OnOk, OnErr};
-ghost use Rattle.srv_store.specs.Stores.{IsTick, with_all};
+ghost use Rattle.srv_store.specs.Stores.{IsTick, AddsPrefix, with_all};
 ghost use Rattle.srv_scrape.specs.Ticks as scrapes;
 ghost use Rattle.srv_run.specs.Served.{CanRun};
 ghost use Rattle.srv_run.specs.Ticking.{left, ticked_as, tick_over};
 
 use cfg_types::{Config, Job};
 use op_base::{Labels, List, Moment, NoMemory};
-use srv_rule::{FailedRule, RuleStates, round};
+use srv_rule::{FailedRule, RuleStates, next_round};
 use srv_scrape::{Pages, scrape_all, tick_entries};
 use srv_store::{Entry, Store};
 use std::alloc::Global;
 
 /// Scrapes everything at the moment and then runs all rules. Answers the label sets that the scrapes
-/// gave, and the rules that failed.
+/// gave, the states of rules that stand after it, and the rules that failed.
 pub fn run_tick(
     alloc: Global,
     config: &Config,
     pages: &Pages,
     scraped: &List<Labels>,
     store: &mut Store,
-    states: &mut RuleStates,
+    states: &RuleStates,
     t: Moment,
-) -> Result<(List<Labels>, List<FailedRule>), NoMemory>
+) -> Result<(List<Labels>, RuleStates, List<FailedRule>), NoMemory>
     requires config { CanRun config.now }
     requires moment { IsTick t }
-    ensures { IfOk result (λ given. ticked_as store.old (left store.new given.0 states.new) given.1
-        ≡ tick_over config.now pages.now (left store.old scraped.now states.old) t) }
+    ensures ok { IfOk result (λ given. ticked_as store.old (left store.new given.0 given.1) given.2
+        ≡ tick_over config.now pages.now (left store.old scraped.now states.now) t) }
+    ensures err { OnErr result (AddsPrefix store.old store.new
+        (tick_over config.now pages.now (left store.old scraped.now states.now) t).memory.store) }
 {
     let given = store_scrapes(alloc, &config.prometheus.jobs, pages, scraped, store, t)?;
-    let view = round(alloc, &config.rules, store, states, t)?;
-    Ok((given, view.failed))
+    let (next, view) = next_round(alloc, &config.rules, store, states, t)?;
+    Ok((given, next, view.failed))
 }
 
 // Stores the entries of all scrapes with the staleness markers. Answers the label sets that are given now.
@@ -46,6 +48,8 @@ fn store_scrapes(
         ≡ scrapes.label_sets (scrapes.scraped_entries pages.now t jobs.now)) }
     ensures ok { OnOk result (store.new ≡ with_all store.old
         (scrapes.tick_entries t before.now (scrapes.scraped_entries pages.now t jobs.now))) }
+    ensures err { OnErr result (AddsPrefix store.old store.new (with_all store.old
+        (scrapes.tick_entries t before.now (scrapes.scraped_entries pages.now t jobs.now)))) }
 {
     let scraped = scrape_all(alloc, jobs, pages, t)?;
     let (entries, given) = tick_entries(alloc, t, before, scraped)?;

@@ -18,6 +18,7 @@ pub struct Sample {
 /// allocator; a look-up takes time logarithmic in the number of URLs.
 #[derive(Debug, Drop)]
 pub struct Pages {
+    alloc: Global,
     pages: Table<Option<List<Sample>>>,
 }
 
@@ -35,21 +36,17 @@ impl Pages {
         ensures { result ≡ [] }
     {
         Pages {
+            alloc,
             pages: Table::new(alloc),
         }
     }
 
     /// Replaces the page of the URL.
-    pub fn set(
-        &mut self,
-        alloc: Global,
-        url: &str,
-        samples: Option<List<Sample>>,
-    ) -> Result<(), NoMemory>
+    pub fn set(&mut self, url: &str, samples: Option<List<Sample>>) -> Result<(), NoMemory>
         ensures ok { OnOk result (self.new ≡ with_entry self.old url.now samples) }
         ensures err { OnErr result (self.new ≡ self.old) }
     {
-        let url = Text::from_str(alloc, url)?;
+        let url = Text::from_str(self.alloc, url)?;
         self.pages.insert(url, samples)
     }
 

@@ -81,7 +81,7 @@ fn scraped(alloc: Global, sample: Labels) -> Result<List<Entry>, NoMemory> {
         value: 7,
     })?;
     let mut pages = Pages::new(alloc);
-    pages.set(alloc, URL, Some(samples))?;
+    pages.set(URL, Some(samples))?;
     scrape(alloc, &probe(alloc)?, &target, &pages, Moment(1000))
 }
 

@@ -11,4 +11,5 @@ invariant_of-self-2 c = (
   subst AreKnown (sym c.in_ok-insert.ensures.ok)
       (known-more c.self.inside.known c.in_ok-name.name tt
       (subst (λ name. is_namespace name ≡ true) (sym (c.in_ok-name.ensures ∙ c.as_str.ensures)) c.requires) c.self.invariant.1),
+  c.self.invariant.2,
 )

@@ -1,7 +1,7 @@
 -- Each way out leaves a first part of the entries in the store.
 use Rattle.srv_rule.specs.Rounds.{ran_of}
 use Rattle.srv_rule.proofs.RunLemmas.{cut_in_rules, cut_after_rules, cut_at_end, on_err_anyway}
-use Rattle.srv_rule.proofs.rounds.round.Goals as goal
+use Rattle.srv_rule.proofs.rounds.next_round.Goals as goal
 
 pub returns-in_err-run_files-clause-err : goal.returns-in_err-run_files-clause-err
 returns-in_err-run_files-clause-err c = on_err_anyway c.from_residual.result
