@@ -5,26 +5,42 @@ use Rattle.std.specs.Io.KnownBytes.{Appends}
 use Rattle.op_edges.specs.Causes.{Rose}
 use Rattle.op_edges.specs.Folders.{Folders}
 use Rattle.op_edges.specs.Streams.{AppendsPrefix}
+use Rattle.op_edges.specs.Told.{Told}
 use Rattle.op_edges.proofs.CountLemmas.{rose_second}
+use Rattle.op_edges.proofs.ToldLemmas.{told_so}
 use Rattle.op_edges.proofs.StreamLemmas.{appends_nothing, appends_twice, appends_same}
-use Rattle.operator_cli.specs.declared.files.NamedFile.{NamedFile}
-use Rattle.operator_cli.specs.Endings.{WhereTold, StopsWith, InOrder}
-use Rattle.operator_cli.specs.Folders.{manifests_in, bytes_in}
-use Rattle.operator_cli.specs.Readings.{Reading, reading_of, folder_of}
+use Rattle.op_run.specs.declared.files.NamedFile.{NamedFile}
+use Rattle.operator_cli.specs.Endings.{IfCompile, IfRun, WhereCompiled, WhereRun, StopsWith, InOrder}
+use Rattle.op_run.specs.Folders.{manifests_in, bytes_in}
+use Rattle.operator_cli.specs.Readings.{Reading, Compile, Run, reading_of}
 
--- what follows of the manifests follows where they are told
-pub where_told : (words : List (List ℕ)) (content : Option Folders) (P Q : List NamedFile → Type 0) → ((files : List NamedFile) → P files → Q files)
-    → WhereTold words content P → WhereTold words content Q
-where_told words content P Q follows =
-    elim (reading_of words) as (λ (r : Option Reading). IfSome r (λ reading. IfSome content (λ folders. P (manifests_in folders (folder_of reading))))
-    → IfSome r (λ reading. IfSome content (λ folders. Q (manifests_in folders (folder_of reading))))) [
-      | None ↦ λ p. tt
-      | Some reading ↦ elim content as (λ (o : Option Folders). IfSome o (λ folders. P (manifests_in folders (folder_of reading)))
-          → IfSome o (λ folders. Q (manifests_in folders (folder_of reading)))) [
-            | None ↦ λ p. tt
-            | Some folders ↦ λ p. follows (manifests_in folders (folder_of reading)) p
-          ]
-    ]
+some_so : {A : Type 0} (o : Option A) (P Q : A → Type 0) → ((a : A) → P a → Q a) → IfSome o P → IfSome o Q
+some_so None P Q follows p = tt
+some_so (Some a) P Q follows p = follows a p
+
+compile_so : (reading : Reading) (P Q : List ℕ → Type 0) → ((dir : List ℕ) → P dir → Q dir) → IfCompile reading P → IfCompile reading Q
+compile_so (Compile dir) P Q follows p = follows dir p
+compile_so (Run dir) P Q follows p = tt
+
+run_so : (reading : Reading) (P Q : List ℕ → Type 0) → ((dir : List ℕ) → P dir → Q dir) → IfRun reading P → IfRun reading Q
+run_so (Compile dir) P Q follows p = tt
+run_so (Run dir) P Q follows p = follows dir p
+
+-- what follows of the manifests that are compiled
+pub where_compiled : (words : List (List ℕ)) (content : Option Folders) (P Q : List NamedFile → Type 0) → ((files : List NamedFile) → P files → Q files)
+    → WhereCompiled words content P → WhereCompiled words content Q
+where_compiled words content P Q follows = some_so (reading_of words) _ _ (λ reading.
+    compile_so reading (λ dir. IfSome content (λ folders. P (manifests_in folders dir))) (λ dir. IfSome content (λ folders. Q (manifests_in folders dir))) (λ dir.
+    some_so content (λ folders. P (manifests_in folders dir)) (λ folders. Q (manifests_in folders dir)) (λ folders. follows (manifests_in folders dir))))
+
+-- what follows of the manifests and the input of a run
+pub where_run : (words : List (List ℕ)) (content : Option Folders) (before after : Option (List ℕ)) (P Q : List NamedFile → List ℕ → List ℕ → Type 0)
+    → ((files : List NamedFile) (bytes left : List ℕ) → P files bytes left → Q files bytes left) → WhereRun words content before after P → WhereRun words content before after Q
+where_run words content before after P Q follows = some_so (reading_of words) _ _ (λ reading.
+    run_so reading (λ dir. IfSome content (λ folders. Told before after (P (manifests_in folders dir))))
+    (λ dir. IfSome content (λ folders. Told before after (Q (manifests_in folders dir)))) (λ dir.
+    some_so content (λ folders. Told before after (P (manifests_in folders dir))) (λ folders. Told before after (Q (manifests_in folders dir))) (λ folders.
+    told_so before after (P (manifests_in folders dir)) (Q (manifests_in folders dir)) (follows (manifests_in folders dir)))))
 
 -- files that were read aren't too many
 pub not_too_many : (content : Option Folders) (dir : List ℕ) (files : List NamedFile) (most : ℕ) (P : Type 0)
@@ -52,11 +68,6 @@ stops_with a b c bytes text (Err e) first second third later (count, within, too
   took = appends_twice a b c (take count bytes) (take shown text) took part;
   whole = inr (rose_second first second third later rose);
 }
-
--- a fact of the read folder's manifests is one of those that are told
-pub told_of : (words : List (List ℕ)) (content : Option Folders) (reading : Reading) (P : List NamedFile → Type 0) → Some reading ≡ reading_of words
-    → IfSome content (λ folders. P (manifests_in folders (folder_of reading))) → WhereTold words content P
-told_of words content reading P is p = subst (λ (r : Option Reading). IfSome r (λ known. IfSome content (λ folders. P (manifests_in folders (folder_of known))))) is p
 
 -- nothing was written but the text
 pub stops_silent : {E : Type 0} (a b c : Option (List ℕ)) (text : List ℕ) (r : Result (Unit {0}) E) (first second third : ℕ) → b ≡ a → first ≤ second

@@ -1,3 +1,1 @@
 mod EndingLemmas
-mod FolderLemmas
-mod RunLemmas

@@ -1,10 +1,10 @@
 -- What the program ends with, and the text that it writes last for it.
 use Rattle.std.specs.Prelude.{ℕ, List, [], ◌∷◌, ◌++◌, Bool, true, false, codes, if◌then◌else◌}
-use Rattle.std.specs.List.{list_all}
 use Rattle.op_report.specs.declared.view.Report.{Report}
-use Rattle.op_report.specs.Lines.{NEWLINE, answers_well}
-use Rattle.operator_cli.specs.declared.run.Stop.{Stop}
-use Rattle.operator_cli.specs.declared.run.Stop.TheVariants.{Output, Memory}
+use Rattle.op_report.specs.Lines.{NEWLINE}
+use Rattle.op_run.specs.declared.stop.Stop.{Stop}
+use Rattle.op_run.specs.declared.stop.Stop.TheVariants.{Input, Limit, Output, Memory}
+use Rattle.op_run.specs.WellAnswered.{all_well}
 use Rattle.operator_cli.specs.declared.status.Status.{Status}
 use Rattle.operator_cli.specs.declared.status.Status.TheVariants.{Done, Refused, Usage, InputFault, FolderFault, OutputFault, InputLimit, NoMemory}
 
@@ -30,7 +30,7 @@ is_ended OutputFault = false
 is_ended InputLimit = false
 is_ended NoMemory = false
 
--- it ended before a report or a configuration was written
+-- it ended before anything was written, whatever was asked for
 abbrev pub is_silent : Status → Bool
 is_silent Done = false
 is_silent Refused = false
@@ -38,7 +38,7 @@ is_silent Usage = true
 is_silent InputFault = false
 is_silent FolderFault = true
 is_silent OutputFault = false
-is_silent InputLimit = true
+is_silent InputLimit = false
 is_silent NoMemory = false
 
 -- it may have ended before all files of the folder were read
@@ -74,7 +74,7 @@ is_whole OutputFault = false
 is_whole InputLimit = false
 is_whole NoMemory = true
 
--- the files were read
+-- what the compilation of files that were read may end with
 abbrev pub is_after_files : Status → Bool
 is_after_files Done = true
 is_after_files Refused = true
@@ -87,15 +87,10 @@ is_after_files NoMemory = true
 
 -- the status of a run that stopped
 abbrev pub status_of_stop : Stop → Status
+status_of_stop Input = InputFault
+status_of_stop Limit = InputLimit
 status_of_stop Output = OutputFault
 status_of_stop Memory = NoMemory
-
--- the report has good answers alone
-abbrev pub is_well : Report → Bool
-is_well report = answers_well report.view
-
-abbrev pub all_well : List Report → Bool
-all_well reports = list_all is_well reports
 
 -- the status of a run to its end: Done where each report has good answers alone
 abbrev pub status_of_well : Bool → Status

@@ -1,15 +1,19 @@
 //! The program `operator`: a compiler for the custom resources of the Prometheus Operator.
 //!
 //! `operate`, in `program.rt`, is the whole program over what it is handed, and its contract is the
-//! program's promise; `main` hands it the real folder, streams and words. Read `specs/Runs.antt`
-//! and `specs/Endings.antt` first.
+//! program's promise; `main` hands it the real folder, streams and words. Read `specs/Endings.antt` first,
+//! and `specs/Outputs.antt` and `specs/Headline.antt` of the crate `op_run`.
 #![tactic(auto)]
 
 ghost use Rattle.std.specs.Prelude.{◌≡◌, ◌<◌};
 
-mod files;
+mod compiling;
 mod program;
-mod run;
+#[cfg(test)]
+mod rig;
+#[cfg(test)]
+mod run_tests;
+mod running;
 mod status;
 #[cfg(test)]
 mod tests;

@@ -1,6 +1,8 @@
 ghost use Rattle.std.specs.Prelude.{◌≡◌};
 ghost use Rattle.operator_cli.specs.Statuses as spec;
 
+use op_run::Stop;
+
 /// How a run of the program ended.
 #[derive(Clone, Copy, Debug, PartialEq, Eq)]
 pub enum Status {
@@ -23,6 +25,25 @@ pub enum Status {
 }
 
 impl Status {
+    /// The status of a run to its end.
+    pub fn of_run(good: bool) -> Status
+        ensures { result ≡ spec.status_of_well good }
+    {
+        if good { Status::Done } else { Status::Refused }
+    }
+
+    /// The status of a run that stopped.
+    pub fn of_stop(stop: Stop) -> Status
+        ensures { result ≡ spec.status_of_stop stop }
+    {
+        match stop {
+            Stop::Input => Status::InputFault,
+            Stop::Limit => Status::InputLimit,
+            Stop::Output => Status::OutputFault,
+            Stop::Memory => Status::NoMemory,
+        }
+    }
+
     /// The text that is written last on standard error, with its newline; empty after Done and
     /// Refused.
     pub fn text(self) -> &'static str

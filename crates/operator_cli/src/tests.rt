@@ -1,16 +1,12 @@
-ghost use Rattle.std.specs.Prelude.{◌≡◌, ◌<◌};
+//! Folders that are compiled.
 
-use crate::program::operate;
+use crate::rig::{ROOM, Wanted, bytes_of, calls, is_front, operate_on, sink, want_of};
 use crate::status::Status;
-use op_base::{List, NoMemory, Steps};
+use op_base::{List, NoMemory};
 use op_edges::{Folder, MemFolder, MemSink, Sink, SureFolder, SureSink, SureSource};
 use std::alloc::Global;
-use std::marker::Brand;
 use std::process::Abort;
-use std::sync::ledger::{Blank, Ledger};
 use std::test::Fail;
-
-const ROOM: usize = 1 << 20;
 
 const EMPTY: &str =
     "{\"alertmanager\":null,\"prometheus\":{\"global\":{\"evaluation_interval\":\"30s\",\"external_labels\":{},\"scrape_interval\":\"30s\",\"scrape_timeout\":\"10s\"},\"scrape_configs\":[]},\"rules\":{}}\n";
@@ -32,18 +28,6 @@ fn manifest(alloc: Global, namespace: &str, name: &str, expr: &str) -> Result<Li
         "{{\"apiVersion\":\"monitoring.coreos.com/v1\",\"kind\":\"PrometheusRule\",\"metadata\":{{\"name\":\"{name}\",\"namespace\":\"{namespace}\"}},\"spec\":{{\"groups\":[{{\"name\":\"g\",\"rules\":[{{\"expr\":\"{expr}\",\"record\":\"a:x\"}}]}}]}}}}"
     )?;
     Ok(List::from_vec(text.as_bytes().to_vec(alloc)?))
-}
-
-fn bytes_of(alloc: Global, text: &str) -> Result<List<u8>, NoMemory> {
-    Ok(List::from_vec(text.as_bytes().to_vec(alloc)?))
-}
-
-fn calls(alloc: Global, numbers: &[u64]) -> Result<List<u64>, NoMemory> {
-    Ok(List::from_vec(numbers.to_vec(alloc)?))
-}
-
-fn sink(alloc: Global, room: usize, fails: &[u64]) -> Result<MemSink, NoMemory> {
-    MemSink::new(alloc, room, calls(alloc, fails)?)
 }
 
 /// The folder `d` of manifests, each with its file's name, namespace, name and expression.
@@ -75,44 +59,8 @@ fn run_over<F: Folder, O: Sink, E: Sink>(
     out: &mut O,
     err: &mut E,
 ) -> Result<Status, NoMemory> {
-    let mut owned = Vec::new(alloc);
-    for word in words {
-        owned.push(String::from_str(alloc, word)?)?;
-    }
-    Ok(counted::<F, O, E, Brand>(alloc, owned.as_slice(), folder, out, err, Blank::new(1)))
-}
-
-fn counted<F: Folder, O: Sink, E: Sink, L: Ledger>(
-    alloc: Global,
-    words: &[String],
-    folder: &mut F,
-    out: &mut O,
-    err: &mut E,
-    blank: Blank,
-) -> Status
-    requires name { blank.name ≡ L.name }
-    requires parts { blank.parts ≡ L.parts }
-    requires some { 0 < L.parts }
-{
     let mut input = SureSource::new(List::new(alloc));
-    let mut steps: Steps<L> = Steps::new(blank);
-    operate(alloc, words, folder, &mut input, out, err, &mut steps)
-}
-
-fn is_front(part: &[u8], whole: &str) -> bool {
-    whole.as_bytes().starts_with(part)
-}
-
-/// What a run of `operate` should write.
-#[derive(Clone, Copy)]
-struct Wanted {
-    status: Status,
-    out: &'static str,
-    err: &'static str,
-}
-
-fn want_of(status: Status, out: &'static str, err: &'static str) -> Wanted {
-    Wanted { status, out, err }
+    operate_on(alloc, words, folder, &mut input, out, err)
 }
 
 /// Compiles the folder `d` with ample room, and compares what is written.

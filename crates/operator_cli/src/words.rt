@@ -6,6 +6,8 @@ ghost use Rattle.operator_cli.specs.Readings as spec;
 pub enum Reading<'a> {
     /// Compile the folder.
     Compile(&'a str),
+    /// Compile the folder, and run what was compiled over the input.
+    Run(&'a str),
 }
 
 impl<'a> Reading<'a> {
@@ -14,12 +16,12 @@ impl<'a> Reading<'a> {
         ensures { result.now ≡ spec.folder_of (spec.shown self.entry) }
     {
         match self {
-            Reading::Compile(dir) => dir,
+            Reading::Compile(dir) | Reading::Run(dir) => dir,
         }
     }
 }
 
-/// The reading of the words, or none: `compile` and one word that doesn't begin with `-`.
+/// The reading of the words, or none: `compile` or `run`, and one word that doesn't begin with `-`.
 pub fn read_words(words: &[String]) -> Option<Reading<'_>>
     ensures { option_map spec.shown result ≡ spec.reading_of (map string_bytes words.now) }
 {
@@ -36,6 +38,8 @@ fn reading_of_two<'a>(command: &str, dir: &'a str) -> Option<Reading<'a>>
         None
     } else if command == "compile" {
         Some(Reading::Compile(dir))
+    } else if command == "run" {
+        Some(Reading::Run(dir))
     } else {
         None
     }

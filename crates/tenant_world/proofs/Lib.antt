@@ -1,4 +1,4 @@
-mod EventLaws
+pub mod EventLaws
 mod KeyLemmas
 mod LineLaws
 mod MemoryLaws

@@ -1,0 +1,9 @@
+mod ReportLemmas
+mod FolderLemmas
+pub mod HeadlineLemmas
+mod LineRunLemmas
+mod LinesRanLemmas
+mod NamedRunLemmas
+mod PatternLemmas
+mod RunLemmas
+mod WholeRunLemmas

@@ -1,0 +1,88 @@
+-- A run's lines and its configuration: the files', then the input's, then the text of what is present.
+use Rattle.std.proofs.Common.{◌≡◌, ℕ, Bool, ◌&&◌, List, [], ◌∷◌, ◌++◌, Option, sym, ap, subst, ◌∙◌, append_assoc}
+use Rattle.std.specs.Io.KnownBytes.{Appends}
+use Rattle.op_edges.specs.Lines.{shown_lines}
+use Rattle.op_edges.specs.Streams.{AppendsPrefix}
+use Rattle.op_edges.proofs.StreamLemmas.{appends_twice, appends_same, prefix_after}
+use Rattle.op_report.specs.declared.view.Report.{Report}
+use Rattle.op_report.specs.Lines.{NEWLINE}
+use Rattle.op_report.specs.ReadBack.{report_bytes}
+use Rattle.cfg_types.specs.Written.{config_text}
+use Rattle.op_thin.specs.Compiled.{config_of}
+use Rattle.op_thin.specs.Objects.{Present, nothing}
+use Rattle.srv_run.specs.Served.{Served, Serving, new_serving}
+use Rattle.tenant_world.specs.Runs.{beginning, run, left_by}
+use Rattle.op_run.specs.declared.files.NamedFile.{NamedFile}
+use Rattle.op_run.specs.Inputs.{file_events, events_from, events_of}
+use Rattle.op_run.specs.Lines.{all_said}
+use Rattle.op_run.specs.Outputs.{present, final_text, run_reports, run_text}
+use Rattle.op_run.specs.WellAnswered.{all_well}
+use Rattle.op_run.proofs.ReportLemmas.{bytes-append, well-append, prefix_of_more}
+use Rattle.op_run.proofs.LineRunLemmas.{run-append, left_by-append, lines_run, lines_left}
+
+-- a server that was told nothing, and no objects
+pub begins : (objects : Present) (server : Serving) → objects ≡ nothing → server ≡ new_serving → record { objects = objects; served = server.served } ≡ beginning
+begins objects server none new = λ i. record { objects = none i; served = (new i).served }
+
+-- the files of a folder left these objects and this server, and the input has these bytes
+module _ (files : List NamedFile) (bytes : List ℕ) (objects : Present) (served : Served)
+    (is : record { objects = objects; served = served } ≡ left_by beginning (file_events files)) where
+  abbrev ones : List Report
+  ones = run beginning (file_events files)
+
+  abbrev others : List Report
+  others = all_said (config_of objects) served 0 (shown_lines bytes)
+
+  abbrev last : List ℕ
+  last = config_text (config_of objects) ++ NEWLINE ∷ []
+
+  -- the reports are the files' and then the input's
+  reports : run_reports files bytes ≡ ones ++ others
+  reports = run-append beginning (file_events files) (events_from 0 (shown_lines bytes))
+      ∙ ap (λ w. ones ++ run w (events_from 0 (shown_lines bytes))) (sym is)
+      ∙ ap (λ l. ones ++ l) (lines_run objects served 0 (shown_lines bytes))
+
+  -- the input leaves the objects
+  objects_stay : present (events_of files bytes) ≡ objects
+  objects_stay = ap (λ w. w.objects) (left_by-append beginning (file_events files) (events_from 0 (shown_lines bytes)))
+      ∙ ap (λ w. (left_by w (events_from 0 (shown_lines bytes))).objects) (sym is)
+      ∙ lines_left objects served 0 (shown_lines bytes)
+
+  whole : run_text files bytes ≡ report_bytes ones ++ (report_bytes others ++ last)
+  whole = ap (λ o. report_bytes (run_reports files bytes) ++ (config_text (config_of o) ++ NEWLINE ∷ [])) objects_stay
+      ∙ ap (λ r. report_bytes r ++ last) reports
+      ∙ ap (λ l. l ++ last) (bytes-append ones others)
+      ∙ append_assoc (report_bytes ones) (report_bytes others) last
+
+  -- all was written
+  pub wrote_run : (a b c : Option (List ℕ)) → Appends a b (report_bytes (run beginning (file_events files)))
+      → Appends b c (report_bytes (all_said (config_of objects) served 0 (shown_lines bytes)) ++ (config_text (config_of objects) ++ NEWLINE ∷ []))
+      → Appends a c (run_text files bytes)
+  wrote_run a b c first second =
+      appends_same a c (report_bytes ones ++ (report_bytes others ++ last)) (run_text files bytes) (sym whole)
+      (appends_twice a b c (report_bytes ones) (report_bytes others ++ last) first second)
+
+  -- the files' lines were written, and a part of the rest
+  pub wrote_part : (a b c : Option (List ℕ)) → Appends a b (report_bytes (run beginning (file_events files)))
+      → AppendsPrefix b c (report_bytes (all_said (config_of objects) served 0 (shown_lines bytes)) ++ (config_text (config_of objects) ++ NEWLINE ∷ []))
+      → AppendsPrefix a c (run_text files bytes)
+  wrote_part a b c first part =
+      subst (AppendsPrefix a c) (sym whole) (prefix_after a b c (report_bytes ones) (report_bytes others ++ last) first part)
+
+  -- both are answered well
+  pub well_run : (good well joined : Bool) → good ≡ all_well (run beginning (file_events files))
+      → well ≡ all_well (all_said (config_of objects) served 0 (shown_lines bytes)) → joined ≡ (good && well) → joined ≡ all_well (run_reports files bytes)
+  well_run good well joined one other is_joined =
+      is_joined ∙ ap (λ b. b && well) one ∙ ap (λ b. all_well ones && b) other ∙ sym (well-append ones others) ∙ sym (ap all_well reports)
+
+-- a part of the files' lines was written
+pub wrote_some : (files : List NamedFile) (bytes : List ℕ) (a b : Option (List ℕ)) → AppendsPrefix a b (report_bytes (run beginning (file_events files)))
+    → AppendsPrefix a b (run_text files bytes)
+wrote_some files bytes a b part =
+    let first = run beginning (file_events files) in
+    let more = run (left_by beginning (file_events files)) (events_from 0 (shown_lines bytes)) in
+    let last = final_text (events_of files bytes) ++ NEWLINE ∷ [] in
+    subst (AppendsPrefix a b)
+    (sym (ap (λ l. l ++ last) (ap report_bytes (run-append beginning (file_events files) (events_from 0 (shown_lines bytes))) ∙ bytes-append first more)
+    ∙ append_assoc (report_bytes first) (report_bytes more) last))
+    (prefix_of_more a b (report_bytes first) (report_bytes more ++ last) part)

@@ -1,0 +1,16 @@
+use Rattle.std.proofs.Common.{◌≡◌, ◌+◌, ◌≤◌, ◌++◌, true, length}
+use Rattle.op_edges.specs.Told.{Told}
+use Rattle.op_run.specs.LineRuns.{LinesRan}
+use Rattle.op_run.proofs.lines.run_lines.Given as goal
+
+abbrev pub invariant-loop : goal.invariant-loop
+invariant-loop g l = record {
+  going : l.reader.going ≡ true;
+  config : l.server.config ≡ l.initial.server.config;
+  ran : Told (g.S.Source.left l.initial.source) (g.S.Source.left l.source) (λ before after.
+      LinesRan l.initial.server.config l.initial.server.served before (g.O.Sink.taken l.initial.sink) (g.O.Sink.taken l.sink)
+      l.server.served l.reader.line (l.reader.held ++ after) l.good);
+  sum : Told (g.S.Source.left l.initial.source) (g.S.Source.left l.source) (λ before after. l.reader.came + length after ≡ length before);
+  later_input : g.S.Source.faults l.initial.source ≤ g.S.Source.faults l.source;
+  later_output : g.O.Sink.faults l.initial.sink ≤ g.O.Sink.faults l.sink;
+}

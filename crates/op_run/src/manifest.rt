@@ -1,0 +1,143 @@
+ghost use Rattle.std.specs.Prelude.{◌≡◌, true, false, IfSome, IfOk, OnOk};
+ghost use Rattle.op_base.specs.Names.{is_namespace};
+ghost use Rattle.op_thin.specs.Items.{IsThinProbe, item_of as meaning_of};
+ghost use Rattle.op_thin.specs.Objects.{is_taken};
+ghost use Rattle.srv_run.specs.Served.{with_known};
+ghost use Rattle.tenant_world.specs.Runs as spec;
+ghost use Rattle.op_run.specs.Inputs.{file_event};
+
+use crate::files::NamedFile;
+use op_base::{Key, Kind, List, NoMemory, Text};
+use op_report::{Report, View};
+use op_thin::{Item, Objects, ThinProbe, ThinRule, item_of};
+use srv_run::{Event, Server};
+use std::alloc::Global;
+
+/// Reads the file's bytes, takes the object that they put, and says what is reported of it. The
+/// namespace of an object that is taken is known from then on.
+pub fn take_file(
+    alloc: Global,
+    file: &NamedFile,
+    objects: &mut Objects,
+    server: &mut Server,
+) -> Result<Report, NoMemory>
+    ensures report { IfOk result (λ report. report ≡ spec.item_report file.now.name (meaning_of file.now.bytes)
+        (is_taken objects.old (meaning_of file.now.bytes))) }
+    ensures world { OnOk result (record { objects = objects.new; served = server.new.served }
+        ≡ spec.next (record { objects = objects.old; served = server.old.served }) (file_event file.now)) }
+    ensures named { IfOk result (λ report. IfSome report.to (λ namespace. is_namespace namespace ≡ true)) }
+{
+    match item_of(alloc, file.bytes.as_slice())? {
+        Item::Broken => not_json(alloc, &file.name),
+        Item::NotYet => not_yet(&file.name),
+        Item::Rule(rule) => take_rule(alloc, &file.name, rule, objects, server),
+        Item::Probe(probe) => take_probe(alloc, &file.name, probe, objects, server),
+    }
+}
+
+fn take_rule(
+    alloc: Global,
+    file: &Text,
+    rule: ThinRule,
+    objects: &mut Objects,
+    server: &mut Server,
+) -> Result<Report, NoMemory>
+    requires { is_namespace rule.namespace ≡ true }
+    ensures report { IfOk result (λ report. report ≡ spec.item_report file.now (Item.Rule rule)
+        (is_taken objects.old (Item.Rule rule))) }
+    ensures world { OnOk result (record { objects = objects.new; served = server.new.served }
+        ≡ spec.after_item (record { objects = objects.old; served = server.old.served }) (Item.Rule rule)
+        (is_taken objects.old (Item.Rule rule))) }
+    ensures named { IfOk result (λ report. IfSome report.to (λ namespace. is_namespace namespace ≡ true)) }
+{
+    let namespace = rule.namespace.clone()?;
+    let report = admitted(alloc, Kind::PrometheusRule, &rule.namespace, &rule.name)?;
+    if objects.put_rule(rule)? {
+        make_known(server, namespace)?;
+        Ok(report)
+    } else {
+        not_yet(file)
+    }
+}
+
+fn take_probe(
+    alloc: Global,
+    file: &Text,
+    probe: ThinProbe,
+    objects: &mut Objects,
+    server: &mut Server,
+) -> Result<Report, NoMemory>
+    requires { IsThinProbe probe }
+    ensures report { IfOk result (λ report. report ≡ spec.item_report file.now (Item.Probe probe)
+        (is_taken objects.old (Item.Probe probe))) }
+    ensures world { OnOk result (record { objects = objects.new; served = server.new.served }
+        ≡ spec.after_item (record { objects = objects.old; served = server.old.served }) (Item.Probe probe)
+        (is_taken objects.old (Item.Probe probe))) }
+    ensures named { IfOk result (λ report. IfSome report.to (λ namespace. is_namespace namespace ≡ true)) }
+{
+    let namespace = probe.namespace.clone()?;
+    let report = admitted(alloc, Kind::Probe, &probe.namespace, &probe.name)?;
+    if objects.put_probe(probe)? {
+        make_known(server, namespace)?;
+        Ok(report)
+    } else {
+        not_yet(file)
+    }
+}
+
+fn make_known(server: &mut Server, namespace: Text) -> Result<(), NoMemory>
+    requires { is_namespace namespace ≡ true }
+    ensures { OnOk result (server.new.served ≡ with_known server.old.served namespace) }
+{
+    match server.event(&Event::Known(namespace)) {
+        Ok(_) => Ok(()),
+        Err(_) => Err(NoMemory),
+    }
+}
+
+fn not_json(alloc: Global, file: &Text) -> Result<Report, NoMemory>
+    ensures { IfOk result (λ report. report ≡ spec.item_report file.now Item.Broken false) }
+{
+    Ok(Report {
+        to: None,
+        view: View::BadFile {
+            rule: Text::from_str(alloc, "S1")?,
+            file: file.clone()?,
+            item: 0,
+            path: Text::new(alloc),
+        },
+    })
+}
+
+fn not_yet(file: &Text) -> Result<Report, NoMemory>
+    ensures { IfOk result (λ report. report ≡ spec.not_yet file.now) }
+{
+    Ok(Report {
+        to: None,
+        view: View::NotYetFile {
+            file: file.clone()?,
+            item: 0,
+        },
+    })
+}
+
+fn admitted(alloc: Global, kind: Kind, namespace: &Text, name: &Text) -> Result<Report, NoMemory>
+    ensures { IfOk result (λ report. report ≡ spec.taken_report kind namespace.now name.now) }
+{
+    let key = Key {
+        kind,
+        namespace: namespace.clone()?,
+        name: name.clone()?,
+    };
+    Ok(Report {
+        to: Some(namespace.clone()?),
+        view: View::Own {
+            deleted: false,
+            key: key.text(alloc)?,
+            answer: Text::from_str(alloc, "Admitted")?,
+            rule: None,
+            path: None,
+            also: List::new(alloc),
+        },
+    })
+}

@@ -1,0 +1,131 @@
+ghost use Rattle.std.specs.Prelude.{◌≡◌, ◌≤◌, ◌<◌, ◌+◌, ◌++◌, ◌∷◌, [], length, IfOk, IfErr, OnOk, OnErr};
+ghost use Rattle.std.specs.Io.KnownBytes.{Appends};
+ghost use Rattle.op_edges.specs.Causes.{Rose};
+ghost use Rattle.op_edges.specs.Told.{Told};
+ghost use Rattle.op_edges.specs.Streams.{AppendsPrefix};
+ghost use Rattle.op_edges.specs.Lines.{most_bytes, shown_lines};
+ghost use Rattle.op_report.specs.Lines.{NEWLINE};
+ghost use Rattle.op_report.specs.ReadBack.{report_bytes};
+ghost use Rattle.cfg_types.specs.Written.{config_text};
+ghost use Rattle.op_thin.specs.Compiled.{config_of};
+ghost use Rattle.op_run.specs.Lines.{all_said};
+ghost use Rattle.op_run.specs.Outputs.{run_reports, run_text};
+ghost use Rattle.op_run.specs.WellAnswered.{all_well};
+
+use crate::configuration::configuration;
+use crate::files::NamedFile;
+use crate::folder::report_files;
+use crate::lines::run_lines;
+use crate::reports::both;
+use crate::stop::Stop;
+use op_base::{List, NoMemory};
+use op_edges::{Sink, Source, put_all};
+use op_thin::Objects;
+use srv_run::Server;
+use std::alloc::Global;
+
+/// Runs the files, and then the lines of the input over what was compiled: writes a line for each file
+/// and what each line says to `out` as it goes, and the configuration of the objects present with a
+/// newline as the last line. Answers whether each line has good answers alone.
+pub fn run_files<S: Source, O: Sink>(
+    alloc: Global,
+    files: &[NamedFile],
+    input: &mut S,
+    out: &mut O,
+) -> Result<bool, Stop>
+    ensures text { Told (S.left input.old) (S.left input.new) (λ bytes after.
+        OnOk result (Appends (O.taken out.old) (O.taken out.new) (run_text files.now bytes))) }
+    ensures good { Told (S.left input.old) (S.left input.new) (λ bytes after.
+        IfOk result (λ good. good ≡ all_well (run_reports files.now bytes))) }
+    ensures stopped { Told (S.left input.old) (S.left input.new) (λ bytes after.
+        OnErr result (AppendsPrefix (O.taken out.old) (O.taken out.new) (run_text files.now bytes))) }
+    ensures read { Told (S.left input.old) (S.left input.new) (λ bytes after. OnOk result (length bytes ≤ most_bytes)) }
+    ensures whole { Told (S.left input.old) (S.left input.new) (λ bytes after. OnOk result (after ≡ [])) }
+    ensures limit { Told (S.left input.old) (S.left input.new) (λ bytes after.
+        IfErr result (λ stop. stop ≡ Stop.Limit → most_bytes + length after < length bytes)) }
+    ensures input { IfErr result (λ stop. stop ≡ Stop.Input → Rose (S.faults input.old) (S.faults input.new)) }
+    ensures output { IfErr result (λ stop. stop ≡ Stop.Output → Rose (O.faults out.old) (O.faults out.new)) }
+{
+    let mut objects = Objects::new(alloc);
+    let mut server = match Server::new(alloc) {
+        Ok(server) => server,
+        Err(_) => return Err(Stop::Memory),
+    };
+    match report_files(alloc, files, &mut objects, &mut server, out) {
+        Ok(good) => match run_configured(alloc, objects, server, input, out) {
+            Ok(well) => Ok(both(good, well)),
+            Err(stop) => Err(stop),
+        },
+        Err(stop) => Err(stop),
+    }
+}
+
+// The input's lines over the configuration of the objects, and then the configuration itself.
+fn run_configured<S: Source, O: Sink>(
+    alloc: Global,
+    objects: Objects,
+    server: Server,
+    input: &mut S,
+    out: &mut O,
+) -> Result<bool, Stop>
+    ensures text { Told (S.left input.old) (S.left input.new) (λ bytes after. OnOk result (Appends (O.taken out.old) (O.taken out.new)
+        (report_bytes (all_said (config_of objects) server.served 0 (shown_lines bytes)) ++ (config_text (config_of objects) ++ NEWLINE ∷ [])))) }
+    ensures good { Told (S.left input.old) (S.left input.new) (λ bytes after. IfOk result (λ good.
+        good ≡ all_well (all_said (config_of objects) server.served 0 (shown_lines bytes)))) }
+    ensures stopped { Told (S.left input.old) (S.left input.new) (λ bytes after. OnErr result (AppendsPrefix (O.taken out.old) (O.taken out.new)
+        (report_bytes (all_said (config_of objects) server.served 0 (shown_lines bytes)) ++ (config_text (config_of objects) ++ NEWLINE ∷ [])))) }
+    ensures read { Told (S.left input.old) (S.left input.new) (λ bytes after. OnOk result (length bytes ≤ most_bytes)) }
+    ensures whole { Told (S.left input.old) (S.left input.new) (λ bytes after. OnOk result (after ≡ [])) }
+    ensures limit { Told (S.left input.old) (S.left input.new) (λ bytes after.
+        IfErr result (λ stop. stop ≡ Stop.Limit → most_bytes + length after < length bytes)) }
+    ensures input { IfErr result (λ stop. stop ≡ Stop.Input → Rose (S.faults input.old) (S.faults input.new)) }
+    ensures output { IfErr result (λ stop. stop ≡ Stop.Output → Rose (O.faults out.old) (O.faults out.new)) }
+    ensures later { O.faults out.old ≤ O.faults out.new }
+{
+    match loaded(alloc, objects, server) {
+        Ok((server, text)) => run_loaded(alloc, server, text.as_slice(), input, out),
+        Err(_) => Err(Stop::Memory),
+    }
+}
+
+// The server with the configuration of the objects, and its text with a newline.
+fn loaded(alloc: Global, objects: Objects, server: Server) -> Result<(Server, List<u8>), NoMemory>
+    ensures server { IfOk result (λ made. made.0 ≡ record server { config = config_of objects }) }
+    ensures text { IfOk result (λ made. made.1 ≡ config_text (config_of objects) ++ NEWLINE ∷ []) }
+{
+    let mut server = server;
+    let (config, text) = configuration(alloc, objects)?;
+    server.load(config)?;
+    Ok((server, text))
+}
+
+fn run_loaded<S: Source, O: Sink>(
+    alloc: Global,
+    server: Server,
+    text: &[u8],
+    input: &mut S,
+    out: &mut O,
+) -> Result<bool, Stop>
+    ensures text { Told (S.left input.old) (S.left input.new) (λ bytes after. OnOk result (Appends (O.taken out.old) (O.taken out.new)
+        (report_bytes (all_said server.config server.served 0 (shown_lines bytes)) ++ text.now))) }
+    ensures good { Told (S.left input.old) (S.left input.new) (λ bytes after. IfOk result (λ good.
+        good ≡ all_well (all_said server.config server.served 0 (shown_lines bytes)))) }
+    ensures stopped { Told (S.left input.old) (S.left input.new) (λ bytes after. OnErr result (AppendsPrefix (O.taken out.old) (O.taken out.new)
+        (report_bytes (all_said server.config server.served 0 (shown_lines bytes)) ++ text.now))) }
+    ensures read { Told (S.left input.old) (S.left input.new) (λ bytes after. OnOk result (length bytes ≤ most_bytes)) }
+    ensures whole { Told (S.left input.old) (S.left input.new) (λ bytes after. OnOk result (after ≡ [])) }
+    ensures limit { Told (S.left input.old) (S.left input.new) (λ bytes after.
+        IfErr result (λ stop. stop ≡ Stop.Limit → most_bytes + length after < length bytes)) }
+    ensures input { IfErr result (λ stop. stop ≡ Stop.Input → Rose (S.faults input.old) (S.faults input.new)) }
+    ensures output { IfErr result (λ stop. stop ≡ Stop.Output → Rose (O.faults out.old) (O.faults out.new)) }
+    ensures later { O.faults out.old ≤ O.faults out.new }
+{
+    let mut server = server;
+    match run_lines(alloc, input, &mut server, out) {
+        Ok(good) => match put_all(out, text) {
+            Ok(()) => Ok(good),
+            Err(_) => Err(Stop::Output),
+        },
+        Err(stop) => Err(stop),
+    }
+}

@@ -1,0 +1,83 @@
+//! What the tests share: folders, sinks and runs of `operate`.
+
+ghost use Rattle.std.specs.Prelude.{◌≡◌, ◌<◌};
+
+use crate::program::operate;
+use crate::status::Status;
+use op_base::{List, NoMemory, Steps};
+use op_edges::{Folder, MemSink, Sink, Source};
+use std::alloc::Global;
+use std::marker::Brand;
+use std::sync::ledger::{Blank, Ledger};
+
+/// Room enough for what a test writes.
+pub const ROOM: usize = 1 << 20;
+
+/// What a run of `operate` should write.
+#[derive(Clone, Copy)]
+pub struct Wanted {
+    pub status: Status,
+    pub out: &'static str,
+    pub err: &'static str,
+}
+
+pub fn want_of(status: Status, out: &'static str, err: &'static str) -> Wanted {
+    Wanted { status, out, err }
+}
+
+pub fn bytes_of(alloc: Global, text: &str) -> Result<List<u8>, NoMemory> {
+    Ok(List::from_vec(text.as_bytes().to_vec(alloc)?))
+}
+
+pub fn calls(alloc: Global, numbers: &[u64]) -> Result<List<u64>, NoMemory> {
+    Ok(List::from_vec(numbers.to_vec(alloc)?))
+}
+
+pub fn sink(alloc: Global, room: usize, fails: &[u64]) -> Result<MemSink, NoMemory> {
+    MemSink::new(alloc, room, calls(alloc, fails)?)
+}
+
+pub fn is_front(part: &[u8], whole: &str) -> bool {
+    whole.as_bytes().starts_with(part)
+}
+
+/// Runs `operate` on the words.
+pub fn operate_on<F: Folder, S: Source, O: Sink, E: Sink>(
+    alloc: Global,
+    words: &[&str],
+    folder: &mut F,
+    input: &mut S,
+    out: &mut O,
+    err: &mut E,
+) -> Result<Status, NoMemory> {
+    let mut owned = Vec::new(alloc);
+    for word in words {
+        owned.push(String::from_str(alloc, word)?)?;
+    }
+    Ok(counted::<F, S, O, E, Brand>(
+        alloc,
+        owned.as_slice(),
+        folder,
+        input,
+        out,
+        err,
+        Blank::new(1),
+    ))
+}
+
+fn counted<F: Folder, S: Source, O: Sink, E: Sink, L: Ledger>(
+    alloc: Global,
+    words: &[String],
+    folder: &mut F,
+    input: &mut S,
+    out: &mut O,
+    err: &mut E,
+    blank: Blank,
+) -> Status
+    requires name { blank.name ≡ L.name }
+    requires parts { blank.parts ≡ L.parts }
+    requires some { 0 < L.parts }
+{
+    let mut steps: Steps<L> = Steps::new(blank);
+    operate(alloc, words, folder, input, out, err, &mut steps)
+}
