@@ -6,3 +6,4 @@ pub mod Lines
 pub mod Outputs
 pub mod Stops
 pub mod WellAnswered
+pub mod Worlds

@@ -27,11 +27,15 @@ pub fn compile_files<O: Sink, E: Sink>(
     out: &mut O,
     err: &mut E,
 ) -> Result<bool, Stop>
-    ensures lines { OnOk result (Appends (E.taken err.old) (E.taken err.new) (report_bytes (reports_of files.now))) }
-    ensures configuration { OnOk result (Appends (O.taken out.old) (O.taken out.new) (configuration_of files.now)) }
+    ensures lines { OnOk result (Appends (E.taken err.old) (E.taken err.new)
+        (report_bytes (reports_of files.now))) }
+    ensures configuration { OnOk result (Appends (O.taken out.old)
+        (O.taken out.new) (configuration_of files.now)) }
     ensures good { IfOk result (λ good. good ≡ all_well (reports_of files.now)) }
-    ensures stopped_lines { OnErr result (AppendsPrefix (E.taken err.old) (E.taken err.new) (report_bytes (reports_of files.now))) }
-    ensures stopped_configuration { OnErr result (AppendsPrefix (O.taken out.old) (O.taken out.new) (configuration_of files.now)) }
+    ensures stopped_lines { OnErr result (AppendsPrefix (E.taken err.old) (E.taken err.new)
+        (report_bytes (reports_of files.now))) }
+    ensures stopped_configuration { OnErr result (AppendsPrefix (O.taken out.old)
+        (O.taken out.new) (configuration_of files.now)) }
     ensures order { (out.new ≡ out.old)
         ⊎ Appends (E.taken err.old) (E.taken err.new) (report_bytes (reports_of files.now)) }
     ensures failed { IfErr result (λ stop. stop ≡ Stop.Output
@@ -54,9 +58,12 @@ pub fn compile_files<O: Sink, E: Sink>(
 }
 
 fn write_configuration<O: Sink>(alloc: Global, objects: Objects, out: &mut O) -> Result<(), Stop>
-    ensures ok { OnOk result (Appends (O.taken out.old) (O.taken out.new) (config_text (config_of objects) ++ NEWLINE ∷ [])) }
-    ensures prefix { OnErr result (AppendsPrefix (O.taken out.old) (O.taken out.new) (config_text (config_of objects) ++ NEWLINE ∷ [])) }
-    ensures failed { IfErr result (λ stop. stop ≡ Stop.Output → Rose (O.faults out.old) (O.faults out.new)) }
+    ensures ok { OnOk result (Appends (O.taken out.old) (O.taken out.new)
+        (config_text (config_of objects) ++ NEWLINE ∷ [])) }
+    ensures prefix { OnErr result (AppendsPrefix (O.taken out.old) (O.taken out.new)
+        (config_text (config_of objects) ++ NEWLINE ∷ [])) }
+    ensures failed { IfErr result (λ stop. stop ≡ Stop.Output
+        → Rose (O.faults out.old) (O.faults out.new)) }
     ensures kinds { IfErr result IsWriting }
 {
     match configuration(alloc, objects) {

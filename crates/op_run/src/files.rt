@@ -34,10 +34,12 @@ pub fn read_manifests<F: Folder>(
     folder: &mut F,
     dir: &str,
 ) -> Result<List<NamedFile>, Trouble>
-    ensures files { IfSome (F.content folder.old) (λ folders. IfOk result (λ files. files ≡ spec.manifests_in folders dir.now)) }
+    ensures files { IfSome (F.content folder.old) (λ folders. IfOk result
+        (λ files. files ≡ spec.manifests_in folders dir.now)) }
     ensures within { IfOk result (λ files. spec.bytes_in files ≤ spec.most_file_bytes) }
     ensures limit { IfSome (F.content folder.old) (λ folders. IfErr result (λ trouble.
-        trouble ≡ Trouble.Limit → spec.most_file_bytes < spec.bytes_in (spec.manifests_in folders dir.now))) }
+        trouble ≡ Trouble.Limit → spec.most_file_bytes < spec.bytes_in
+        (spec.manifests_in folders dir.now))) }
     ensures later { F.faults folder.old ≤ F.faults folder.new }
     ensures failed { IfErr result (λ trouble. trouble ≡ Trouble.Folder
         → Rose (F.faults folder.old) (F.faults folder.new)) }
@@ -59,7 +61,8 @@ fn read_named<F: Folder>(
         files ≡ flat_map (spec.manifest_at folders dir.now) names.now)) }
     ensures within { IfOk result (λ files. spec.bytes_in files ≤ spec.most_file_bytes) }
     ensures limit { IfSome (F.content folder.old) (λ folders. IfErr result (λ trouble.
-        trouble ≡ Trouble.Limit → spec.most_file_bytes < spec.bytes_in (flat_map (spec.manifest_at folders dir.now) names.now))) }
+        trouble ≡ Trouble.Limit → spec.most_file_bytes < spec.bytes_in (flat_map
+        (spec.manifest_at folders dir.now) names.now))) }
     ensures later { F.faults folder.old ≤ F.faults folder.new }
     ensures failed { IfErr result (λ trouble. trouble ≡ Trouble.Folder
         → Rose (F.faults folder.old) (F.faults folder.new)) }
@@ -86,9 +89,11 @@ fn read_next<F: Folder>(
 ) -> Result<usize, Trouble>
     ensures files { IfSome (F.content folder.old) (λ folders. OnOk result (files.new
         ≡ files.old ++ spec.manifest_at folders dir.now name.now)) }
-    ensures room { IfOk result (λ left. left + spec.bytes_in files.new ≡ room + spec.bytes_in files.old) }
+    ensures room { IfOk result (λ left. left + spec.bytes_in files.new
+        ≡ room + spec.bytes_in files.old) }
     ensures limit { IfSome (F.content folder.old) (λ folders. IfErr result (λ trouble.
-        trouble ≡ Trouble.Limit → room < spec.bytes_in (spec.manifest_at folders dir.now name.now))) }
+        trouble ≡ Trouble.Limit → room < spec.bytes_in
+        (spec.manifest_at folders dir.now name.now))) }
     ensures content { F.content folder.new ≡ F.content folder.old }
     ensures later { F.faults folder.old ≤ F.faults folder.new }
     ensures failed { IfErr result (λ trouble. trouble ≡ Trouble.Folder
@@ -112,7 +117,8 @@ fn keep(
     room: usize,
 ) -> Result<usize, Trouble>
     requires { length bytes ≤ room }
-    ensures files { OnOk result (files.new ≡ files.old ++ (record { name = name.now; bytes = bytes }) ∷ []) }
+    ensures files { OnOk result (files.new ≡ files.old
+        ++ (record { name = name.now; bytes = bytes }) ∷ []) }
     ensures room { IfOk result (λ left. left + length bytes ≡ room) }
     ensures memory { IfErr result (λ trouble. trouble ≡ Trouble.Memory) }
 {

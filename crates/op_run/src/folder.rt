@@ -4,6 +4,7 @@ ghost use Rattle.op_edges.specs.Causes.{Rose};
 ghost use Rattle.op_edges.specs.Streams.{AppendsPrefix};
 ghost use Rattle.op_report.specs.ReadBack.{report_bytes};
 ghost use Rattle.tenant_world.specs.Runs.{run, left_by, next, said};
+ghost use Rattle.op_run.specs.Worlds.{world};
 ghost use Rattle.op_run.specs.Inputs.{file_event, file_events};
 ghost use Rattle.op_run.specs.WellAnswered.{all_well};
 ghost use Rattle.op_run.specs.Stops.{IsWriting};
@@ -27,15 +28,16 @@ pub fn report_files<O: Sink>(
     sink: &mut O,
 ) -> Result<bool, Stop>
     ensures lines { OnOk result (Appends (O.taken sink.old) (O.taken sink.new)
-        (report_bytes (run (record { objects = objects.old; served = server.old.served }) (file_events files.now)))) }
-    ensures world { OnOk result (record { objects = objects.new; served = server.new.served }
-        ≡ left_by (record { objects = objects.old; served = server.old.served }) (file_events files.now)) }
+        (report_bytes (run (world objects.old server.old.served) (file_events files.now)))) }
+    ensures world { OnOk result (world objects.new server.new.served
+        ≡ left_by (world objects.old server.old.served) (file_events files.now)) }
     ensures good { IfOk result (λ good. good
-        ≡ all_well (run (record { objects = objects.old; served = server.old.served }) (file_events files.now))) }
+        ≡ all_well (run (world objects.old server.old.served) (file_events files.now))) }
     ensures prefix { OnErr result (AppendsPrefix (O.taken sink.old) (O.taken sink.new)
-        (report_bytes (run (record { objects = objects.old; served = server.old.served }) (file_events files.now)))) }
+        (report_bytes (run (world objects.old server.old.served) (file_events files.now)))) }
     ensures later { O.faults sink.old ≤ O.faults sink.new }
-    ensures failed { IfErr result (λ stop. stop ≡ Stop.Output → Rose (O.faults sink.old) (O.faults sink.new)) }
+    ensures failed { IfErr result (λ stop. stop ≡ Stop.Output
+        → Rose (O.faults sink.old) (O.faults sink.new)) }
     ensures kinds { IfErr result IsWriting }
 {
     let mut good = true;
@@ -56,15 +58,16 @@ fn report_file<O: Sink>(
     sink: &mut O,
 ) -> Result<bool, Stop>
     ensures line { OnOk result (Appends (O.taken sink.old) (O.taken sink.new)
-        (report_bytes (said (record { objects = objects.old; served = server.old.served }) (file_event file.now)))) }
-    ensures world { OnOk result (record { objects = objects.new; served = server.new.served }
-        ≡ next (record { objects = objects.old; served = server.old.served }) (file_event file.now)) }
+        (report_bytes (said (world objects.old server.old.served) (file_event file.now)))) }
+    ensures world { OnOk result (world objects.new server.new.served
+        ≡ next (world objects.old server.old.served) (file_event file.now)) }
     ensures good { IfOk result (λ good. good
-        ≡ all_well (said (record { objects = objects.old; served = server.old.served }) (file_event file.now))) }
+        ≡ all_well (said (world objects.old server.old.served) (file_event file.now))) }
     ensures prefix { OnErr result (AppendsPrefix (O.taken sink.old) (O.taken sink.new)
-        (report_bytes (said (record { objects = objects.old; served = server.old.served }) (file_event file.now)))) }
+        (report_bytes (said (world objects.old server.old.served) (file_event file.now)))) }
     ensures later { O.faults sink.old ≤ O.faults sink.new }
-    ensures failed { IfErr result (λ stop. stop ≡ Stop.Output → Rose (O.faults sink.old) (O.faults sink.new)) }
+    ensures failed { IfErr result (λ stop. stop ≡ Stop.Output
+        → Rose (O.faults sink.old) (O.faults sink.new)) }
     ensures kinds { IfErr result IsWriting }
 {
     match take_file(alloc, file, objects, server) {

@@ -31,13 +31,16 @@ pub fn say_whole<O: Sink>(
 ) -> Result<bool, Stop>
     ensures lines { OnOk result (Appends (O.taken sink.old) (O.taken sink.new)
         (report_bytes (spec.said_by server.old.config server.old.served number (Line.Whole bytes.now)))) }
-    ensures good { IfOk result (λ good. good ≡ all_well (spec.said_by server.old.config server.old.served number (Line.Whole bytes.now))) }
-    ensures served { OnOk result (server.new.served ≡ spec.served_by server.old.config server.old.served (Line.Whole bytes.now)) }
+    ensures good { IfOk result (λ good. good ≡ all_well
+        (spec.said_by server.old.config server.old.served number (Line.Whole bytes.now))) }
+    ensures served { OnOk result (server.new.served
+        ≡ spec.served_by server.old.config server.old.served (Line.Whole bytes.now)) }
     ensures config { OnOk result (server.new.config ≡ server.old.config) }
     ensures prefix { OnErr result (AppendsPrefix (O.taken sink.old) (O.taken sink.new)
         (report_bytes (spec.said_by server.old.config server.old.served number (Line.Whole bytes.now)))) }
     ensures later { O.faults sink.old ≤ O.faults sink.new }
-    ensures failed { IfErr result (λ stop. stop ≡ Stop.Output → Rose (O.faults sink.old) (O.faults sink.new)) }
+    ensures failed { IfErr result (λ stop. stop ≡ Stop.Output
+        → Rose (O.faults sink.old) (O.faults sink.new)) }
     ensures kinds { IfErr result IsWriting }
 {
     match take_line(alloc, number, bytes, server) {
@@ -54,7 +57,8 @@ pub fn say_long<O: Sink>(alloc: Global, number: u64, sink: &mut O) -> Result<boo
     ensures prefix { OnErr result (AppendsPrefix (O.taken sink.old) (O.taken sink.new)
         (report_bytes (world.to_all (View.Long number) ∷ []))) }
     ensures later { O.faults sink.old ≤ O.faults sink.new }
-    ensures failed { IfErr result (λ stop. stop ≡ Stop.Output → Rose (O.faults sink.old) (O.faults sink.new)) }
+    ensures failed { IfErr result (λ stop. stop ≡ Stop.Output
+        → Rose (O.faults sink.old) (O.faults sink.new)) }
     ensures kinds { IfErr result IsWriting }
 {
     match to_all(alloc, View::Long { line: number }) {
@@ -70,8 +74,10 @@ fn take_line(
     bytes: &[u8],
     server: &mut Server,
 ) -> Result<List<Report>, NoMemory>
-    ensures reports { IfOk result (λ reports. reports ≡ spec.said_by server.old.config server.old.served number (Line.Whole bytes.now)) }
-    ensures served { OnOk result (server.new.served ≡ spec.served_by server.old.config server.old.served (Line.Whole bytes.now)) }
+    ensures reports { IfOk result (λ reports. reports
+        ≡ spec.said_by server.old.config server.old.served number (Line.Whole bytes.now)) }
+    ensures served { OnOk result (server.new.served
+        ≡ spec.served_by server.old.config server.old.served (Line.Whole bytes.now)) }
     ensures config { OnOk result (server.new.config ≡ server.old.config) }
     ensures named { IfOk result AreNamed }
 {
@@ -89,8 +95,10 @@ fn take_input(
     server: &mut Server,
 ) -> Result<List<Report>, NoMemory>
     requires { IsWithin line }
-    ensures reports { IfOk result (λ reports. reports ≡ world.line_said server.old.config server.old.served number line) }
-    ensures served { OnOk result (server.new.served ≡ world.line_served server.old.config server.old.served line) }
+    ensures reports { IfOk result (λ reports. reports
+        ≡ world.line_said server.old.config server.old.served number line) }
+    ensures served { OnOk result (server.new.served
+        ≡ world.line_served server.old.config server.old.served line) }
     ensures config { OnOk result (server.new.config ≡ server.old.config) }
     ensures named { IfOk result AreNamed }
 {
@@ -104,8 +112,10 @@ fn take_input(
 
 fn take_page(event: Event, server: &mut Server) -> Result<List<Report>, NoMemory>
     requires { (url : _) × (samples : _) × (event ≡ Event.Page url samples) }
-    ensures reports { IfOk result (λ reports. reports ≡ reports_of server.old.config server.old.served event) }
-    ensures served { OnOk result (server.new.served ≡ served_after server.old.config server.old.served event) }
+    ensures reports { IfOk result (λ reports. reports
+        ≡ reports_of server.old.config server.old.served event) }
+    ensures served { OnOk result (server.new.served
+        ≡ served_after server.old.config server.old.served event) }
     ensures config { OnOk result (server.new.config ≡ server.old.config) }
     ensures named { IfOk result AreNamed }
 {
@@ -137,7 +147,8 @@ fn take_tick(
 }
 
 fn bad_line(alloc: Global, number: u64, shape: Shape) -> Result<List<Report>, NoMemory>
-    ensures reports { IfOk result (λ reports. reports ≡ world.to_all (View.Bad (rule_text shape.rule) number shape.path) ∷ []) }
+    ensures reports { IfOk result (λ reports. reports
+        ≡ world.to_all (View.Bad (rule_text shape.rule) number shape.path) ∷ []) }
     ensures named { IfOk result AreNamed }
 {
     let rule = shape.rule.text(alloc)?;

@@ -24,17 +24,25 @@ pub fn run_lines<S: Source, O: Sink>(
     server: &mut Server,
     sink: &mut O,
 ) -> Result<bool, Stop>
-    ensures lines { Told (S.left source.old) (S.left source.new) (λ before after. OnOk result (Appends (O.taken sink.old) (O.taken sink.new)
+    ensures lines { Told (S.left source.old) (S.left source.new)
+        (λ before after. OnOk result (Appends (O.taken sink.old) (O.taken sink.new)
         (report_bytes (spec.all_said server.old.config server.old.served 0 (shown_lines before))))) }
-    ensures good { Told (S.left source.old) (S.left source.new) (λ before after. IfOk result (λ good. good
+    ensures good { Told (S.left source.old) (S.left source.new) (λ before after. IfOk result
+        (λ good. good
         ≡ all_well (spec.all_said server.old.config server.old.served 0 (shown_lines before)))) }
-    ensures prefix { Told (S.left source.old) (S.left source.new) (λ before after. OnErr result (AppendsPrefix (O.taken sink.old) (O.taken sink.new)
+    ensures prefix { Told (S.left source.old) (S.left source.new)
+        (λ before after. OnErr result (AppendsPrefix (O.taken sink.old) (O.taken sink.new)
         (report_bytes (spec.all_said server.old.config server.old.served 0 (shown_lines before))))) }
-    ensures within { Told (S.left source.old) (S.left source.new) (λ before after. OnOk result (length before ≤ most_bytes)) }
-    ensures whole { Told (S.left source.old) (S.left source.new) (λ before after. OnOk result (after ≡ [])) }
-    ensures limit { Told (S.left source.old) (S.left source.new) (λ before after. IfErr result (λ stop. stop ≡ Stop.Limit → most_bytes + length after < length before)) }
-    ensures input { IfErr result (λ stop. stop ≡ Stop.Input → Rose (S.faults source.old) (S.faults source.new)) }
-    ensures output { IfErr result (λ stop. stop ≡ Stop.Output → Rose (O.faults sink.old) (O.faults sink.new)) }
+    ensures within { Told (S.left source.old) (S.left source.new)
+        (λ before after. OnOk result (length before ≤ most_bytes)) }
+    ensures whole { Told (S.left source.old) (S.left source.new)
+        (λ before after. OnOk result (after ≡ [])) }
+    ensures limit { Told (S.left source.old) (S.left source.new) (λ before after. IfErr result
+        (λ stop. stop ≡ Stop.Limit → most_bytes + length after < length before)) }
+    ensures input { IfErr result (λ stop. stop ≡ Stop.Input
+        → Rose (S.faults source.old) (S.faults source.new)) }
+    ensures output { IfErr result (λ stop. stop ≡ Stop.Output
+        → Rose (O.faults sink.old) (O.faults sink.new)) }
     ensures later_input { S.faults source.old ≤ S.faults source.new }
     ensures later_output { O.faults sink.old ≤ O.faults sink.new }
 {
@@ -71,23 +79,32 @@ fn run_line<S: Source, O: Sink>(
     sink: &mut O,
 ) -> Next
     requires { reader.old.going ≡ true }
-    ensures more { Told (S.left source.old) (S.left source.new) (λ before after. IfMore result (λ well.
-        OneMore server.old.config server.old.served reader.old.line (reader.old.held ++ before) (reader.new.held ++ after)
+    ensures more { Told (S.left source.old) (S.left source.new) (λ before after. IfMore result
+        (λ well.
+        OneMore server.old.config server.old.served reader.old.line (reader.old.held
+        ++ before) (reader.new.held ++ after)
         (O.taken sink.old) (O.taken sink.new) server.new.served reader.new.line well)) }
-    ensures going { IfMore result (λ well. (reader.new.going ≡ true) × (server.new.config ≡ server.old.config)) }
+    ensures going { IfMore result (λ well. (reader.new.going ≡ true)
+        × (server.new.config ≡ server.old.config)) }
     ensures ends { Told (S.left source.old) (S.left source.new) (λ before after. IfEnds result
-        ((reader.old.held ++ before ≡ []) × (reader.new.held ++ after ≡ []) × (O.taken sink.new ≡ O.taken sink.old) × (given reader.new ≤ most_bytes))) }
-    ensures stops { Told (S.left source.old) (S.left source.new) (λ before after. IfStops result (λ stop.
+        ((reader.old.held ++ before ≡ []) × (reader.new.held ++ after ≡ [])
+        × (O.taken sink.new ≡ O.taken sink.old) × (given reader.new ≤ most_bytes))) }
+    ensures stops { Told (S.left source.old) (S.left source.new) (λ before after. IfStops result
+        (λ stop.
         AppendsPrefix (O.taken sink.old) (O.taken sink.new)
         (report_bytes (spec.all_said server.old.config server.old.served reader.old.line (shown_lines (reader.old.held ++ before)))))) }
-    ensures sum { Told (S.left source.old) (S.left source.new) (λ before after. IfMore result (λ well.
+    ensures sum { Told (S.left source.old) (S.left source.new) (λ before after. IfMore result
+        (λ well.
         reader.new.came + length after ≡ reader.old.came + length before)) }
     ensures end_sum { Told (S.left source.old) (S.left source.new) (λ before after. IfEnds result
         (reader.new.came + length after ≡ reader.old.came + length before)) }
-    ensures limit { Told (S.left source.old) (S.left source.new) (λ before after. IfStops result (λ stop. stop ≡ Stop.Limit
+    ensures limit { Told (S.left source.old) (S.left source.new) (λ before after. IfStops result
+        (λ stop. stop ≡ Stop.Limit
         → most_bytes + length after < reader.old.came + length before)) }
-    ensures input { IfStops result (λ stop. stop ≡ Stop.Input → Rose (S.faults source.old) (S.faults source.new)) }
-    ensures output { IfStops result (λ stop. stop ≡ Stop.Output → Rose (O.faults sink.old) (O.faults sink.new)) }
+    ensures input { IfStops result (λ stop. stop ≡ Stop.Input
+        → Rose (S.faults source.old) (S.faults source.new)) }
+    ensures output { IfStops result (λ stop. stop ≡ Stop.Output
+        → Rose (O.faults sink.old) (O.faults sink.new)) }
     ensures later_input { S.faults source.old ≤ S.faults source.new }
     ensures later_output { O.faults sink.old ≤ O.faults sink.new }
 {

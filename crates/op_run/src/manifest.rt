@@ -4,6 +4,7 @@ ghost use Rattle.op_thin.specs.Items.{IsThinProbe, item_of as meaning_of};
 ghost use Rattle.op_thin.specs.Objects.{is_taken};
 ghost use Rattle.srv_run.specs.Served.{with_known};
 ghost use Rattle.tenant_world.specs.Runs as spec;
+ghost use Rattle.op_run.specs.Worlds.{world};
 ghost use Rattle.op_run.specs.Inputs.{file_event};
 
 use crate::files::NamedFile;
@@ -21,11 +22,13 @@ pub fn take_file(
     objects: &mut Objects,
     server: &mut Server,
 ) -> Result<Report, NoMemory>
-    ensures report { IfOk result (λ report. report ≡ spec.item_report file.now.name (meaning_of file.now.bytes)
+    ensures report { IfOk result (λ report. report
+        ≡ spec.item_report file.now.name (meaning_of file.now.bytes)
         (is_taken objects.old (meaning_of file.now.bytes))) }
-    ensures world { OnOk result (record { objects = objects.new; served = server.new.served }
-        ≡ spec.next (record { objects = objects.old; served = server.old.served }) (file_event file.now)) }
-    ensures named { IfOk result (λ report. IfSome report.to (λ namespace. is_namespace namespace ≡ true)) }
+    ensures world { OnOk result (world objects.new server.new.served
+        ≡ spec.next (world objects.old server.old.served) (file_event file.now)) }
+    ensures named { IfOk result (λ report. IfSome report.to
+        (λ namespace. is_namespace namespace ≡ true)) }
 {
     match item_of(alloc, file.bytes.as_slice())? {
         Item::Broken => not_json(alloc, &file.name),
@@ -45,10 +48,11 @@ fn take_rule(
     requires { is_namespace rule.namespace ≡ true }
     ensures report { IfOk result (λ report. report ≡ spec.item_report file.now (Item.Rule rule)
         (is_taken objects.old (Item.Rule rule))) }
-    ensures world { OnOk result (record { objects = objects.new; served = server.new.served }
-        ≡ spec.after_item (record { objects = objects.old; served = server.old.served }) (Item.Rule rule)
+    ensures world { OnOk result (world objects.new server.new.served
+        ≡ spec.after_item (world objects.old server.old.served) (Item.Rule rule)
         (is_taken objects.old (Item.Rule rule))) }
-    ensures named { IfOk result (λ report. IfSome report.to (λ namespace. is_namespace namespace ≡ true)) }
+    ensures named { IfOk result (λ report. IfSome report.to
+        (λ namespace. is_namespace namespace ≡ true)) }
 {
     let namespace = rule.namespace.clone()?;
     let report = admitted(alloc, Kind::PrometheusRule, &rule.namespace, &rule.name)?;
@@ -70,10 +74,11 @@ fn take_probe(
     requires { IsThinProbe probe }
     ensures report { IfOk result (λ report. report ≡ spec.item_report file.now (Item.Probe probe)
         (is_taken objects.old (Item.Probe probe))) }
-    ensures world { OnOk result (record { objects = objects.new; served = server.new.served }
-        ≡ spec.after_item (record { objects = objects.old; served = server.old.served }) (Item.Probe probe)
+    ensures world { OnOk result (world objects.new server.new.served
+        ≡ spec.after_item (world objects.old server.old.served) (Item.Probe probe)
         (is_taken objects.old (Item.Probe probe))) }
-    ensures named { IfOk result (λ report. IfSome report.to (λ namespace. is_namespace namespace ≡ true)) }
+    ensures named { IfOk result (λ report. IfSome report.to
+        (λ namespace. is_namespace namespace ≡ true)) }
 {
     let namespace = probe.namespace.clone()?;
     let report = admitted(alloc, Kind::Probe, &probe.namespace, &probe.name)?;

@@ -16,11 +16,14 @@ use std::alloc::Global;
 /// Writes the lines of the reports. Answers whether each has good answers alone.
 pub fn write_reports<O: Sink>(alloc: Global, reports: &[Report], sink: &mut O) -> Result<bool, Stop>
     requires { AreNamed reports.now }
-    ensures lines { OnOk result (Appends (O.taken sink.old) (O.taken sink.new) (report_bytes reports.now)) }
+    ensures lines { OnOk result (Appends (O.taken sink.old) (O.taken sink.new)
+        (report_bytes reports.now)) }
     ensures good { IfOk result (λ good. good ≡ all_well reports.now) }
-    ensures prefix { OnErr result (AppendsPrefix (O.taken sink.old) (O.taken sink.new) (report_bytes reports.now)) }
+    ensures prefix { OnErr result (AppendsPrefix (O.taken sink.old) (O.taken sink.new)
+        (report_bytes reports.now)) }
     ensures later { O.faults sink.old ≤ O.faults sink.new }
-    ensures failed { IfErr result (λ stop. stop ≡ Stop.Output → Rose (O.faults sink.old) (O.faults sink.new)) }
+    ensures failed { IfErr result (λ stop. stop ≡ Stop.Output
+        → Rose (O.faults sink.old) (O.faults sink.new)) }
     ensures kinds { IfErr result IsWriting }
 {
     let mut good = true;
@@ -43,11 +46,14 @@ pub fn both(first: bool, second: bool) -> bool
 /// Writes the line of the report. Answers whether it has good answers alone.
 pub fn write_report<O: Sink>(alloc: Global, report: &Report, sink: &mut O) -> Result<bool, Stop>
     requires { IfSome report.now.to (λ namespace. is_namespace namespace ≡ true) }
-    ensures line { OnOk result (Appends (O.taken sink.old) (O.taken sink.new) (lines.report_line report.now)) }
+    ensures line { OnOk result (Appends (O.taken sink.old)
+        (O.taken sink.new) (lines.report_line report.now)) }
     ensures good { IfOk result (λ good. good ≡ is_well report.now) }
-    ensures prefix { OnErr result (AppendsPrefix (O.taken sink.old) (O.taken sink.new) (lines.report_line report.now)) }
+    ensures prefix { OnErr result (AppendsPrefix (O.taken sink.old)
+        (O.taken sink.new) (lines.report_line report.now)) }
     ensures later { O.faults sink.old ≤ O.faults sink.new }
-    ensures failed { IfErr result (λ stop. stop ≡ Stop.Output → Rose (O.faults sink.old) (O.faults sink.new)) }
+    ensures failed { IfErr result (λ stop. stop ≡ Stop.Output
+        → Rose (O.faults sink.old) (O.faults sink.new)) }
     ensures kinds { IfErr result IsWriting }
 {
     let line = match report_line(alloc, report) {

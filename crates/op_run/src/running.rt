@@ -38,13 +38,18 @@ pub fn run_files<S: Source, O: Sink>(
     ensures good { Told (S.left input.old) (S.left input.new) (λ bytes after.
         IfOk result (λ good. good ≡ all_well (run_reports files.now bytes))) }
     ensures stopped { Told (S.left input.old) (S.left input.new) (λ bytes after.
-        OnErr result (AppendsPrefix (O.taken out.old) (O.taken out.new) (run_text files.now bytes))) }
-    ensures read { Told (S.left input.old) (S.left input.new) (λ bytes after. OnOk result (length bytes ≤ most_bytes)) }
-    ensures whole { Told (S.left input.old) (S.left input.new) (λ bytes after. OnOk result (after ≡ [])) }
+        OnErr result (AppendsPrefix (O.taken out.old) (O.taken out.new)
+        (run_text files.now bytes))) }
+    ensures read { Told (S.left input.old) (S.left input.new)
+        (λ bytes after. OnOk result (length bytes ≤ most_bytes)) }
+    ensures whole { Told (S.left input.old) (S.left input.new)
+        (λ bytes after. OnOk result (after ≡ [])) }
     ensures limit { Told (S.left input.old) (S.left input.new) (λ bytes after.
         IfErr result (λ stop. stop ≡ Stop.Limit → most_bytes + length after < length bytes)) }
-    ensures input { IfErr result (λ stop. stop ≡ Stop.Input → Rose (S.faults input.old) (S.faults input.new)) }
-    ensures output { IfErr result (λ stop. stop ≡ Stop.Output → Rose (O.faults out.old) (O.faults out.new)) }
+    ensures input { IfErr result (λ stop. stop ≡ Stop.Input
+        → Rose (S.faults input.old) (S.faults input.new)) }
+    ensures output { IfErr result (λ stop. stop ≡ Stop.Output
+        → Rose (O.faults out.old) (O.faults out.new)) }
 {
     let mut objects = Objects::new(alloc);
     let mut server = match Server::new(alloc) {
@@ -68,18 +73,26 @@ fn run_configured<S: Source, O: Sink>(
     input: &mut S,
     out: &mut O,
 ) -> Result<bool, Stop>
-    ensures text { Told (S.left input.old) (S.left input.new) (λ bytes after. OnOk result (Appends (O.taken out.old) (O.taken out.new)
-        (report_bytes (all_said (config_of objects) server.served 0 (shown_lines bytes)) ++ (config_text (config_of objects) ++ NEWLINE ∷ [])))) }
+    ensures text { Told (S.left input.old) (S.left input.new)
+        (λ bytes after. OnOk result (Appends (O.taken out.old) (O.taken out.new)
+        (report_bytes (all_said (config_of objects) server.served 0 (shown_lines bytes)) ++
+        (config_text (config_of objects) ++ NEWLINE ∷ [])))) }
     ensures good { Told (S.left input.old) (S.left input.new) (λ bytes after. IfOk result (λ good.
         good ≡ all_well (all_said (config_of objects) server.served 0 (shown_lines bytes)))) }
-    ensures stopped { Told (S.left input.old) (S.left input.new) (λ bytes after. OnErr result (AppendsPrefix (O.taken out.old) (O.taken out.new)
-        (report_bytes (all_said (config_of objects) server.served 0 (shown_lines bytes)) ++ (config_text (config_of objects) ++ NEWLINE ∷ [])))) }
-    ensures read { Told (S.left input.old) (S.left input.new) (λ bytes after. OnOk result (length bytes ≤ most_bytes)) }
-    ensures whole { Told (S.left input.old) (S.left input.new) (λ bytes after. OnOk result (after ≡ [])) }
+    ensures stopped { Told (S.left input.old) (S.left input.new)
+        (λ bytes after. OnErr result (AppendsPrefix (O.taken out.old) (O.taken out.new)
+        (report_bytes (all_said (config_of objects) server.served 0 (shown_lines bytes)) ++
+        (config_text (config_of objects) ++ NEWLINE ∷ [])))) }
+    ensures read { Told (S.left input.old) (S.left input.new)
+        (λ bytes after. OnOk result (length bytes ≤ most_bytes)) }
+    ensures whole { Told (S.left input.old) (S.left input.new)
+        (λ bytes after. OnOk result (after ≡ [])) }
     ensures limit { Told (S.left input.old) (S.left input.new) (λ bytes after.
         IfErr result (λ stop. stop ≡ Stop.Limit → most_bytes + length after < length bytes)) }
-    ensures input { IfErr result (λ stop. stop ≡ Stop.Input → Rose (S.faults input.old) (S.faults input.new)) }
-    ensures output { IfErr result (λ stop. stop ≡ Stop.Output → Rose (O.faults out.old) (O.faults out.new)) }
+    ensures input { IfErr result (λ stop. stop ≡ Stop.Input
+        → Rose (S.faults input.old) (S.faults input.new)) }
+    ensures output { IfErr result (λ stop. stop ≡ Stop.Output
+        → Rose (O.faults out.old) (O.faults out.new)) }
     ensures later { O.faults out.old ≤ O.faults out.new }
 {
     match loaded(alloc, objects, server) {
@@ -106,18 +119,24 @@ fn run_loaded<S: Source, O: Sink>(
     input: &mut S,
     out: &mut O,
 ) -> Result<bool, Stop>
-    ensures text { Told (S.left input.old) (S.left input.new) (λ bytes after. OnOk result (Appends (O.taken out.old) (O.taken out.new)
+    ensures text { Told (S.left input.old) (S.left input.new)
+        (λ bytes after. OnOk result (Appends (O.taken out.old) (O.taken out.new)
         (report_bytes (all_said server.config server.served 0 (shown_lines bytes)) ++ text.now))) }
     ensures good { Told (S.left input.old) (S.left input.new) (λ bytes after. IfOk result (λ good.
         good ≡ all_well (all_said server.config server.served 0 (shown_lines bytes)))) }
-    ensures stopped { Told (S.left input.old) (S.left input.new) (λ bytes after. OnErr result (AppendsPrefix (O.taken out.old) (O.taken out.new)
+    ensures stopped { Told (S.left input.old) (S.left input.new)
+        (λ bytes after. OnErr result (AppendsPrefix (O.taken out.old) (O.taken out.new)
         (report_bytes (all_said server.config server.served 0 (shown_lines bytes)) ++ text.now))) }
-    ensures read { Told (S.left input.old) (S.left input.new) (λ bytes after. OnOk result (length bytes ≤ most_bytes)) }
-    ensures whole { Told (S.left input.old) (S.left input.new) (λ bytes after. OnOk result (after ≡ [])) }
+    ensures read { Told (S.left input.old) (S.left input.new)
+        (λ bytes after. OnOk result (length bytes ≤ most_bytes)) }
+    ensures whole { Told (S.left input.old) (S.left input.new)
+        (λ bytes after. OnOk result (after ≡ [])) }
     ensures limit { Told (S.left input.old) (S.left input.new) (λ bytes after.
         IfErr result (λ stop. stop ≡ Stop.Limit → most_bytes + length after < length bytes)) }
-    ensures input { IfErr result (λ stop. stop ≡ Stop.Input → Rose (S.faults input.old) (S.faults input.new)) }
-    ensures output { IfErr result (λ stop. stop ≡ Stop.Output → Rose (O.faults out.old) (O.faults out.new)) }
+    ensures input { IfErr result (λ stop. stop ≡ Stop.Input
+        → Rose (S.faults input.old) (S.faults input.new)) }
+    ensures output { IfErr result (λ stop. stop ≡ Stop.Output
+        → Rose (O.faults out.old) (O.faults out.new)) }
     ensures later { O.faults out.old ≤ O.faults out.new }
 {
     let mut server = server;

@@ -36,76 +36,103 @@ pub fn operate<F: Folder, S: Source, O: Sink, E: Sink, L: Ledger>(
     steps: &mut Steps<L>,
 ) -> Status
     // What `compile` wrote where all was read to its end, and what the status says then.
-    ensures lines { WhereCompiled (map string_bytes words.now) (F.content folder.old) (λ files. is_ended result ≡ true
+    ensures lines { WhereCompiled (map string_bytes words.now) (F.content folder.old)
+        (λ files. is_ended result ≡ true
         → Appends (E.taken err.old) (E.taken err.new) (report_bytes (reports_of files))) }
-    ensures configuration { WhereCompiled (map string_bytes words.now) (F.content folder.old) (λ files. is_ended result ≡ true
+    ensures configuration { WhereCompiled (map string_bytes words.now) (F.content folder.old)
+        (λ files. is_ended result ≡ true
         → Appends (O.taken out.old) (O.taken out.new) (configuration_of files)) }
-    ensures status { WhereCompiled (map string_bytes words.now) (F.content folder.old) (λ files. is_ended result ≡ true
+    ensures status { WhereCompiled (map string_bytes words.now) (F.content folder.old)
+        (λ files. is_ended result ≡ true
         → result ≡ status_of (reports_of files)) }
 
     // The configuration is written after all lines.
     ensures order { WhereCompiled (map string_bytes words.now) (F.content folder.old) (λ files.
-        InOrder (out.new ≡ out.old) (E.taken err.old) (E.taken err.new) (report_bytes (reports_of files)) (status_text result)) }
+        InOrder (out.new ≡ out.old) (E.taken err.old) (E.taken err.new)
+        (report_bytes (reports_of files)) (status_text result)) }
 
     // What it wrote where it ended before.
-    ensures stopped_lines { WhereCompiled (map string_bytes words.now) (F.content folder.old) (λ files. is_ended result ≡ false
-        → StopsWith (E.taken err.old) (E.taken err.new) (report_bytes (reports_of files)) (status_text result)
+    ensures stopped_lines { WhereCompiled (map string_bytes words.now) (F.content folder.old)
+        (λ files. is_ended result ≡ false
+        → StopsWith (E.taken err.old) (E.taken err.new)
+        (report_bytes (reports_of files)) (status_text result)
         (Rose (E.faults err.old) (E.faults err.new))) }
-    ensures stopped_configuration { WhereCompiled (map string_bytes words.now) (F.content folder.old) (λ files. is_ended result ≡ false
+    ensures stopped_configuration { WhereCompiled (map string_bytes words.now)
+        (F.content folder.old) (λ files. is_ended result ≡ false
         → AppendsPrefix (O.taken out.old) (O.taken out.new) (configuration_of files)) }
 
-    // What `run` wrote where all was read to its end, for all objects, and what the status says then.
-    ensures run_text { WhereRun (map string_bytes words.now) (F.content folder.old) (S.left input.old) (S.left input.new) (λ files bytes left. is_ended result ≡ true
+    // What `run` wrote where all was read to its end, for all objects, what the status says then, and
+    // that nothing is left of the input.
+    ensures run_text { WhereRun (map string_bytes words.now) (F.content folder.old)
+        (S.left input.old) (S.left input.new) (λ files bytes left. is_ended result ≡ true
         → Appends (O.taken out.old) (O.taken out.new) (run_text files bytes)) }
-    ensures run_status { WhereRun (map string_bytes words.now) (F.content folder.old) (S.left input.old) (S.left input.new) (λ files bytes left. is_ended result ≡ true
+    ensures run_status { WhereRun (map string_bytes words.now) (F.content folder.old)
+        (S.left input.old) (S.left input.new) (λ files bytes left. is_ended result ≡ true
         → result ≡ status_of (run_reports files bytes)) }
-
-    ensures run_whole { WhereRun (map string_bytes words.now) (F.content folder.old) (S.left input.old) (S.left input.new) (λ files bytes left. is_ended result ≡ true
+    ensures run_whole { WhereRun (map string_bytes words.now) (F.content folder.old)
+        (S.left input.old) (S.left input.new) (λ files bytes left. is_ended result ≡ true
         → left ≡ []) }
 
     // Isolation: the lines of each namespace are those of its own world, and the last line is the
     // from-scratch text of the objects present.
-    ensures headline { WhereRun (map string_bytes words.now) (F.content folder.old) (S.left input.old) (S.left input.new) (λ files bytes left. is_ended result ≡ true
+    ensures headline { WhereRun (map string_bytes words.now) (F.content folder.old)
+        (S.left input.old) (S.left input.new) (λ files bytes left. is_ended result ≡ true
         → Headline files bytes (O.taken out.old) (O.taken out.new)) }
 
     // What it wrote where it ended before; to `err` it writes the status text alone.
-    ensures run_stopped { WhereRun (map string_bytes words.now) (F.content folder.old) (S.left input.old) (S.left input.new) (λ files bytes left. is_ended result ≡ false
+    ensures run_stopped { WhereRun (map string_bytes words.now) (F.content folder.old)
+        (S.left input.old) (S.left input.new) (λ files bytes left. is_ended result ≡ false
         → AppendsPrefix (O.taken out.old) (O.taken out.new) (run_text files bytes)) }
-    ensures run_err { asks_input (map string_bytes words.now) ≡ true → StopsWith (E.taken err.old) (E.taken err.new) [] (status_text result)
+    ensures run_err { asks_input (map string_bytes words.now) ≡ true
+        → StopsWith (E.taken err.old) (E.taken err.new) [] (status_text result)
         (Rose (E.faults err.old) (E.faults err.new)) }
 
     // What is written where nothing was begun.
-    ensures silent_err { is_silent result ≡ true → StopsWith (E.taken err.old) (E.taken err.new) [] (status_text result)
+    ensures silent_err { is_silent result ≡ true → StopsWith (E.taken err.old)
+        (E.taken err.new) [] (status_text result)
         (Rose (E.faults err.old) (E.faults err.new)) }
     ensures silent_out { is_silent result ≡ true → out.new ≡ out.old }
     ensures limit_err { result ≡ Status.InputLimit → asks_input (map string_bytes words.now) ≡ false
-        → StopsWith (E.taken err.old) (E.taken err.new) [] (status_text result) (Rose (E.faults err.old) (E.faults err.new)) }
-    ensures limit_out { result ≡ Status.InputLimit → asks_input (map string_bytes words.now) ≡ false → out.new ≡ out.old }
-    ensures too_many { WhereTold (map string_bytes words.now) (F.content folder.old) (λ files. most_file_bytes < bytes_in files
+        → StopsWith (E.taken err.old) (E.taken err.new) [] (status_text result)
+        (Rose (E.faults err.old) (E.faults err.new)) }
+    ensures limit_out { result ≡ Status.InputLimit → asks_input (map string_bytes words.now)
+        ≡ false → out.new ≡ out.old }
+    ensures too_many { WhereTold (map string_bytes words.now) (F.content folder.old)
+        (λ files. most_file_bytes < bytes_in files
         → out.new ≡ out.old) }
 
     // When each status comes.
     ensures usage { (result ≡ Status.Usage) ↔ IsNone (reading_of (map string_bytes words.now)) }
-    ensures folder_fault { result ≡ Status.FolderFault → Rose (F.faults folder.old) (F.faults folder.new) }
+    ensures folder_fault { result ≡ Status.FolderFault
+        → Rose (F.faults folder.old) (F.faults folder.new) }
     ensures output_fault { result ≡ Status.OutputFault
         → Rose (O.faults out.old) (O.faults out.new) ⊎ Rose (E.faults err.old) (E.faults err.new) }
-    ensures run_output_fault { asks_input (map string_bytes words.now) ≡ true → result ≡ Status.OutputFault
+    ensures run_output_fault { asks_input (map string_bytes words.now) ≡ true
+        → result ≡ Status.OutputFault
         → Rose (O.faults out.old) (O.faults out.new) }
     ensures input_fault { result ≡ Status.InputFault
-        → (asks_input (map string_bytes words.now) ≡ true) × Rose (S.faults input.old) (S.faults input.new) }
-    ensures limit { WhereCompiled (map string_bytes words.now) (F.content folder.old) (λ files. result ≡ Status.InputLimit
+        → (asks_input (map string_bytes words.now) ≡ true)
+        × Rose (S.faults input.old) (S.faults input.new) }
+    ensures limit { WhereCompiled (map string_bytes words.now) (F.content folder.old)
+        (λ files. result ≡ Status.InputLimit
         → most_file_bytes < bytes_in files) }
-    ensures within { WhereTold (map string_bytes words.now) (F.content folder.old) (λ files. most_file_bytes < bytes_in files
+    ensures within { WhereTold (map string_bytes words.now) (F.content folder.old)
+        (λ files. most_file_bytes < bytes_in files
         → is_cut_short result ≡ true) }
-    ensures run_limit { WhereRun (map string_bytes words.now) (F.content folder.old) (S.left input.old) (S.left input.new) (λ files bytes left. result ≡ Status.InputLimit
+    ensures run_limit { WhereRun (map string_bytes words.now) (F.content folder.old)
+        (S.left input.old) (S.left input.new) (λ files bytes left. result ≡ Status.InputLimit
         → (most_file_bytes < bytes_in files) ⊎ (most_bytes + length left < length bytes)) }
-    ensures run_within { WhereRun (map string_bytes words.now) (F.content folder.old) (S.left input.old) (S.left input.new) (λ files bytes left. most_bytes < length bytes
+    ensures run_within { WhereRun (map string_bytes words.now) (F.content folder.old)
+        (S.left input.old) (S.left input.new) (λ files bytes left. most_bytes < length bytes
         → is_ended result ≡ false) }
-    ensures complete { WhereCompiled (map string_bytes words.now) (F.content folder.old) (λ files. bytes_in files ≤ most_file_bytes
+    ensures complete { WhereCompiled (map string_bytes words.now) (F.content folder.old)
+        (λ files. bytes_in files ≤ most_file_bytes
         → (is_whole result ≡ true) ⊎ Rose (F.faults folder.old) (F.faults folder.new)
         ⊎ Rose (O.faults out.old) (O.faults out.new) ⊎ Rose (E.faults err.old) (E.faults err.new)) }
-    ensures run_complete { WhereRun (map string_bytes words.now) (F.content folder.old) (S.left input.old) (S.left input.new) (λ files bytes left. bytes_in files ≤ most_file_bytes → length bytes ≤ most_bytes
-        → (is_whole result ≡ true) ⊎ Rose (F.faults folder.old) (F.faults folder.new) ⊎ Rose (S.faults input.old) (S.faults input.new)
+    ensures run_complete { WhereRun (map string_bytes words.now) (F.content folder.old)
+        (S.left input.old) (S.left input.new) (λ files bytes left. bytes_in files ≤ most_file_bytes → length bytes ≤ most_bytes
+        → (is_whole result ≡ true) ⊎ Rose (F.faults folder.old) (F.faults folder.new)
+        ⊎ Rose (S.faults input.old) (S.faults input.new)
         ⊎ Rose (O.faults out.old) (O.faults out.new)) }
 
     // What isn't touched.
@@ -129,46 +156,65 @@ fn carry_out<F: Folder, S: Source, O: Sink, E: Sink>(
 ) -> Status
     ensures usage { (result ≡ Status.Usage) ↔ IsNone (reading_of (map string_bytes words.now)) }
     ensures unread { result ≡ Status.Usage → folder.new ≡ folder.old }
-    ensures lines { WhereCompiled (map string_bytes words.now) (F.content folder.old) (λ files. is_ended result ≡ true
+    ensures lines { WhereCompiled (map string_bytes words.now) (F.content folder.old)
+        (λ files. is_ended result ≡ true
         → Appends (E.taken err.old) (E.taken err.new) (report_bytes (reports_of files))) }
-    ensures configuration { WhereCompiled (map string_bytes words.now) (F.content folder.old) (λ files. is_ended result ≡ true
+    ensures configuration { WhereCompiled (map string_bytes words.now) (F.content folder.old)
+        (λ files. is_ended result ≡ true
         → Appends (O.taken out.old) (O.taken out.new) (configuration_of files)) }
-    ensures status { WhereCompiled (map string_bytes words.now) (F.content folder.old) (λ files. is_ended result ≡ true
+    ensures status { WhereCompiled (map string_bytes words.now) (F.content folder.old)
+        (λ files. is_ended result ≡ true
         → result ≡ status_of (reports_of files)) }
-    ensures stopped_lines { WhereCompiled (map string_bytes words.now) (F.content folder.old) (λ files. is_ended result ≡ false
+    ensures stopped_lines { WhereCompiled (map string_bytes words.now) (F.content folder.old)
+        (λ files. is_ended result ≡ false
         → AppendsPrefix (E.taken err.old) (E.taken err.new) (report_bytes (reports_of files))) }
-    ensures stopped_configuration { WhereCompiled (map string_bytes words.now) (F.content folder.old) (λ files. is_ended result ≡ false
+    ensures stopped_configuration { WhereCompiled (map string_bytes words.now)
+        (F.content folder.old) (λ files. is_ended result ≡ false
         → AppendsPrefix (O.taken out.old) (O.taken out.new) (configuration_of files)) }
-    ensures order { WhereCompiled (map string_bytes words.now) (F.content folder.old) (λ files. (out.new ≡ out.old)
+    ensures order { WhereCompiled (map string_bytes words.now) (F.content folder.old)
+        (λ files. (out.new ≡ out.old)
         ⊎ Appends (E.taken err.old) (E.taken err.new) (report_bytes (reports_of files))) }
-    ensures run_text { WhereRun (map string_bytes words.now) (F.content folder.old) (S.left input.old) (S.left input.new) (λ files bytes left. is_ended result ≡ true
+    ensures run_text { WhereRun (map string_bytes words.now) (F.content folder.old)
+        (S.left input.old) (S.left input.new) (λ files bytes left. is_ended result ≡ true
         → Appends (O.taken out.old) (O.taken out.new) (run_text files bytes)) }
-    ensures run_status { WhereRun (map string_bytes words.now) (F.content folder.old) (S.left input.old) (S.left input.new) (λ files bytes left. is_ended result ≡ true
+    ensures run_status { WhereRun (map string_bytes words.now) (F.content folder.old)
+        (S.left input.old) (S.left input.new) (λ files bytes left. is_ended result ≡ true
         → result ≡ status_of (run_reports files bytes)) }
-    ensures run_whole { WhereRun (map string_bytes words.now) (F.content folder.old) (S.left input.old) (S.left input.new) (λ files bytes left. is_ended result ≡ true
+    ensures run_whole { WhereRun (map string_bytes words.now) (F.content folder.old)
+        (S.left input.old) (S.left input.new) (λ files bytes left. is_ended result ≡ true
         → left ≡ []) }
-    ensures run_stopped { WhereRun (map string_bytes words.now) (F.content folder.old) (S.left input.old) (S.left input.new) (λ files bytes left. is_ended result ≡ false
+    ensures run_stopped { WhereRun (map string_bytes words.now) (F.content folder.old)
+        (S.left input.old) (S.left input.new) (λ files bytes left. is_ended result ≡ false
         → AppendsPrefix (O.taken out.old) (O.taken out.new) (run_text files bytes)) }
     ensures run_err { asks_input (map string_bytes words.now) ≡ true → err.new ≡ err.old }
     ensures silent { is_silent result ≡ true → (err.new ≡ err.old) × (out.new ≡ out.old) }
-    ensures limit_silent { result ≡ Status.InputLimit → asks_input (map string_bytes words.now) ≡ false
+    ensures limit_silent { result ≡ Status.InputLimit → asks_input (map string_bytes words.now)
+        ≡ false
         → (err.new ≡ err.old) × (out.new ≡ out.old) }
-    ensures too_many { WhereTold (map string_bytes words.now) (F.content folder.old) (λ files. most_file_bytes < bytes_in files
+    ensures too_many { WhereTold (map string_bytes words.now) (F.content folder.old)
+        (λ files. most_file_bytes < bytes_in files
         → out.new ≡ out.old) }
-    ensures folder_fault { result ≡ Status.FolderFault → Rose (F.faults folder.old) (F.faults folder.new) }
-    ensures run_output_fault { asks_input (map string_bytes words.now) ≡ true → result ≡ Status.OutputFault
+    ensures folder_fault { result ≡ Status.FolderFault
+        → Rose (F.faults folder.old) (F.faults folder.new) }
+    ensures run_output_fault { asks_input (map string_bytes words.now) ≡ true
+        → result ≡ Status.OutputFault
         → Rose (O.faults out.old) (O.faults out.new) }
     ensures input_fault { result ≡ Status.InputFault
-        → (asks_input (map string_bytes words.now) ≡ true) × Rose (S.faults input.old) (S.faults input.new) }
+        → (asks_input (map string_bytes words.now) ≡ true)
+        × Rose (S.faults input.old) (S.faults input.new) }
     ensures output_fault { result ≡ Status.OutputFault
         → Rose (O.faults out.old) (O.faults out.new) ⊎ Rose (E.faults err.old) (E.faults err.new) }
-    ensures limit { WhereCompiled (map string_bytes words.now) (F.content folder.old) (λ files. result ≡ Status.InputLimit
+    ensures limit { WhereCompiled (map string_bytes words.now) (F.content folder.old)
+        (λ files. result ≡ Status.InputLimit
         → most_file_bytes < bytes_in files) }
-    ensures within { WhereTold (map string_bytes words.now) (F.content folder.old) (λ files. most_file_bytes < bytes_in files
+    ensures within { WhereTold (map string_bytes words.now) (F.content folder.old)
+        (λ files. most_file_bytes < bytes_in files
         → is_cut_short result ≡ true) }
-    ensures run_limit { WhereRun (map string_bytes words.now) (F.content folder.old) (S.left input.old) (S.left input.new) (λ files bytes left. result ≡ Status.InputLimit
+    ensures run_limit { WhereRun (map string_bytes words.now) (F.content folder.old)
+        (S.left input.old) (S.left input.new) (λ files bytes left. result ≡ Status.InputLimit
         → (most_file_bytes < bytes_in files) ⊎ (most_bytes + length left < length bytes)) }
-    ensures run_within { WhereRun (map string_bytes words.now) (F.content folder.old) (S.left input.old) (S.left input.new) (λ files bytes left. most_bytes < length bytes
+    ensures run_within { WhereRun (map string_bytes words.now) (F.content folder.old)
+        (S.left input.old) (S.left input.new) (λ files bytes left. most_bytes < length bytes
         → is_ended result ≡ false) }
     ensures source { asks_input (map string_bytes words.now) ≡ false → input.new ≡ input.old }
     ensures later { E.faults err.old ≤ E.faults err.new }

@@ -22,25 +22,39 @@ pub fn run<F: Folder, S: Source, O: Sink>(
     input: &mut S,
     out: &mut O,
 ) -> Status
-    ensures text { IfSome (F.content folder.old) (λ folders. Told (S.left input.old) (S.left input.new) (λ bytes after.
-        is_ended result ≡ true → Appends (O.taken out.old) (O.taken out.new) (run_text (manifests_in folders dir.now) bytes))) }
-    ensures status { IfSome (F.content folder.old) (λ folders. Told (S.left input.old) (S.left input.new) (λ bytes after.
+    ensures text { IfSome (F.content folder.old) (λ folders. Told (S.left input.old)
+        (S.left input.new) (λ bytes after.
+        is_ended result ≡ true → Appends (O.taken out.old) (O.taken out.new)
+        (run_text (manifests_in folders dir.now) bytes))) }
+    ensures status { IfSome (F.content folder.old) (λ folders. Told (S.left input.old)
+        (S.left input.new) (λ bytes after.
         is_ended result ≡ true → result ≡ status_of (run_reports (manifests_in folders dir.now) bytes))) }
-    ensures stopped { IfSome (F.content folder.old) (λ folders. Told (S.left input.old) (S.left input.new) (λ bytes after.
-        is_ended result ≡ false → AppendsPrefix (O.taken out.old) (O.taken out.new) (run_text (manifests_in folders dir.now) bytes))) }
-    ensures read { Told (S.left input.old) (S.left input.new) (λ bytes after. is_ended result ≡ true → length bytes ≤ most_bytes) }
-    ensures whole { Told (S.left input.old) (S.left input.new) (λ bytes after. is_ended result ≡ true → after ≡ []) }
-    ensures within { IfSome (F.content folder.old) (λ folders. most_file_bytes < bytes_in (manifests_in folders dir.now)
+    ensures stopped { IfSome (F.content folder.old) (λ folders. Told (S.left input.old)
+        (S.left input.new) (λ bytes after.
+        is_ended result ≡ false → AppendsPrefix (O.taken out.old) (O.taken out.new)
+        (run_text (manifests_in folders dir.now) bytes))) }
+    ensures read { Told (S.left input.old) (S.left input.new)
+        (λ bytes after. is_ended result ≡ true → length bytes ≤ most_bytes) }
+    ensures whole { Told (S.left input.old) (S.left input.new)
+        (λ bytes after. is_ended result ≡ true → after ≡ []) }
+    ensures within { IfSome (F.content folder.old)
+        (λ folders. most_file_bytes < bytes_in (manifests_in folders dir.now)
         → is_cut_short result ≡ true) }
-    ensures limit { IfSome (F.content folder.old) (λ folders. Told (S.left input.old) (S.left input.new) (λ bytes after.
-        result ≡ Status.InputLimit → (most_file_bytes < bytes_in (manifests_in folders dir.now)) ⊎ (most_bytes + length after < length bytes))) }
+    ensures limit { IfSome (F.content folder.old) (λ folders. Told (S.left input.old)
+        (S.left input.new) (λ bytes after.
+        result ≡ Status.InputLimit → (most_file_bytes < bytes_in (manifests_in folders dir.now))
+        ⊎ (most_bytes + length after < length bytes))) }
     ensures silent { result ≡ Status.FolderFault → out.new ≡ out.old }
-    ensures too_many { IfSome (F.content folder.old) (λ folders. most_file_bytes < bytes_in (manifests_in folders dir.now)
+    ensures too_many { IfSome (F.content folder.old)
+        (λ folders. most_file_bytes < bytes_in (manifests_in folders dir.now)
         → out.new ≡ out.old) }
     ensures usage { result ≢ Status.Usage }
-    ensures folder_fault { result ≡ Status.FolderFault → Rose (F.faults folder.old) (F.faults folder.new) }
-    ensures input_fault { result ≡ Status.InputFault → Rose (S.faults input.old) (S.faults input.new) }
-    ensures output_fault { result ≡ Status.OutputFault → Rose (O.faults out.old) (O.faults out.new) }
+    ensures folder_fault { result ≡ Status.FolderFault
+        → Rose (F.faults folder.old) (F.faults folder.new) }
+    ensures input_fault { result ≡ Status.InputFault
+        → Rose (S.faults input.old) (S.faults input.new) }
+    ensures output_fault { result ≡ Status.OutputFault
+        → Rose (O.faults out.old) (O.faults out.new) }
 {
     match read_manifests(alloc, folder, dir) {
         Ok(files) => run_over(alloc, files.as_slice(), input, out),
@@ -57,18 +71,24 @@ fn run_over<S: Source, O: Sink>(
     out: &mut O,
 ) -> Status
     ensures text { Told (S.left input.old) (S.left input.new) (λ bytes after.
-        is_ended result ≡ true → Appends (O.taken out.old) (O.taken out.new) (run_text files.now bytes)) }
+        is_ended result ≡ true → Appends (O.taken out.old) (O.taken out.new)
+        (run_text files.now bytes)) }
     ensures status { Told (S.left input.old) (S.left input.new) (λ bytes after.
         is_ended result ≡ true → result ≡ status_of (run_reports files.now bytes)) }
     ensures stopped { Told (S.left input.old) (S.left input.new) (λ bytes after.
-        is_ended result ≡ false → AppendsPrefix (O.taken out.old) (O.taken out.new) (run_text files.now bytes)) }
-    ensures read { Told (S.left input.old) (S.left input.new) (λ bytes after. is_ended result ≡ true → length bytes ≤ most_bytes) }
-    ensures whole { Told (S.left input.old) (S.left input.new) (λ bytes after. is_ended result ≡ true → after ≡ []) }
+        is_ended result ≡ false → AppendsPrefix (O.taken out.old) (O.taken out.new)
+        (run_text files.now bytes)) }
+    ensures read { Told (S.left input.old) (S.left input.new)
+        (λ bytes after. is_ended result ≡ true → length bytes ≤ most_bytes) }
+    ensures whole { Told (S.left input.old) (S.left input.new)
+        (λ bytes after. is_ended result ≡ true → after ≡ []) }
     ensures limit { Told (S.left input.old) (S.left input.new) (λ bytes after.
         result ≡ Status.InputLimit → most_bytes + length after < length bytes) }
     ensures kinds { (result ≢ Status.Usage) × (result ≢ Status.FolderFault) }
-    ensures input_fault { result ≡ Status.InputFault → Rose (S.faults input.old) (S.faults input.new) }
-    ensures output_fault { result ≡ Status.OutputFault → Rose (O.faults out.old) (O.faults out.new) }
+    ensures input_fault { result ≡ Status.InputFault
+        → Rose (S.faults input.old) (S.faults input.new) }
+    ensures output_fault { result ≡ Status.OutputFault
+        → Rose (O.faults out.old) (O.faults out.new) }
 {
     match run_files(alloc, files, input, out) {
         Ok(good) => Status::of_run(good),
