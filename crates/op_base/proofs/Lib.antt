@@ -2,6 +2,6 @@ mod CaptureLemmas
 pub mod EntryLemmas
 mod PatternLemmas
 mod SpanLemmas
-mod SpanReadLemmas
+pub mod SpanReadLemmas
 mod TableLemmas
 mod TemplateLemmas

@@ -213,7 +213,7 @@ span_of-written ms small =
     nothing : (ms : ℕ) → (ms == 0) ≡ true → 0 ≡ ms
     nothing ms is = grind (arith, nat_tests, is)
 
-span_read-written : (ms : ℕ) → ms ≤ longest → span_read (span_written ms) ≡ Ok (record { 0 = pos ms })
+pub span_read-written : (ms : ℕ) → ms ≤ longest → span_read (span_written ms) ≡ Ok (record { 0 = pos ms })
 span_read-written ms small =
     ap span_within (span_of-written ms small) ∙ ap (λ t. cond t (Err Long) (Ok (record { 0 = pos ms }))) (within ms small)
   where
@@ -221,7 +221,7 @@ span_read-written ms small =
     within ms small = grind (arith, nat_tests, small)
 
 -- a span of 0 or more is its milliseconds
-of_size : (span : Span) → pos 0 ≤ℤ span.0 → record { 0 = pos (nat_abs span.0) } ≡ span
+pub of_size : (span : Span) → pos 0 ≤ℤ span.0 → record { 0 = pos (nat_abs span.0) } ≡ span
 of_size span some = ap (λ z. record { 0 = z }) (size span.0 some)
   where
     size : (z : ℤ) → pos 0 ≤ℤ z → pos (nat_abs z) ≡ z

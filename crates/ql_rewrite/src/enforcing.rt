@@ -1,7 +1,9 @@
-ghost use Rattle.std.specs.Prelude.{◌≡◌, Err, None, Some, IfOk, OnOk, IsTrue, map, not};
+ghost use Rattle.std.specs.Prelude.{◌≡◌, ℕ, true, false, List, Err, None, Some, IfOk, OnOk, IsTrue, map, not, codes, bytes_eq};
 ghost use Rattle.std.specs.List.{filter};
 ghost use Rattle.op_base.specs.declared.matcher.Matcher.{Matcher as BaseMatcher};
+ghost use Rattle.op_base.specs.Names.{is_label_name};
 ghost use Rattle.ql_tree.specs.Enforced as spec;
+ghost use Rattle.ql_tree.specs.Spells.{Spells};
 
 use crate::conflicts::{first_conflict, is_on};
 use op_base::{List, MatchOp, Matcher, NoMemory, Text};
@@ -29,7 +31,8 @@ impl From<NoMemory> for EnforceFault {
 
 /// The tree with, in every selector, the matchers on the label removed and `name="value"` put
 /// behind the others. `Conflict` comes exactly where `strict` is set and some matcher on the label
-/// isn't that one; it carries the first in text order.
+/// isn't that one; it carries the first in text order. Some text spells the answer where one spells
+/// the tree and the name is a label name other than `__name__`.
 pub fn enforce(
     alloc: Global,
     expr: &Expr,
@@ -41,6 +44,9 @@ pub fn enforce(
     ensures no_conflict { OnOk result (IsTrue strict → spec.first_conflict name.now value.now expr.now ≡ None) }
     ensures conflict { (m : BaseMatcher) → result ≡ Err (EnforceFault.Conflict m)
         → IsTrue strict × (spec.first_conflict name.now value.now expr.now ≡ Some m) }
+    ensures spelled { (text : List ℕ) → is_label_name name.now ≡ true
+        → bytes_eq name.now (codes "__name__") ≡ false → Spells expr.now text
+        → (again : List ℕ) × Spells (spec.enforced name.now value.now expr.now) again }
 {
     if strict {
         if let Some(m) = first_conflict(expr, name, value) {

@@ -1,7 +1,8 @@
-ghost use Rattle.std.specs.Prelude.{◌≡◌, ◌++◌, IfOk, OnOk, codes, map};
+ghost use Rattle.std.specs.Prelude.{◌≡◌, ℕ, ◌++◌, List, IfOk, OnOk, codes, map};
 ghost use Rattle.std.specs.Fmt.{signed_decimal};
 ghost use Rattle.std.specs.List.{flat_map};
 ghost use Rattle.ql_tree.specs.Printed as spec;
+ghost use Rattle.ql_tree.specs.Spells.{Spells};
 
 use crate::clauses::{aggregate_name, level_of, push_grouping, push_operator};
 use crate::selectors::{push_quoted, push_selector};
@@ -9,10 +10,12 @@ use op_base::{NoMemory, Text};
 use ql_tree::Expr;
 use std::alloc::Global;
 
-/// The text of the tree: single spaces, lower-case operators, and no bracket that isn't needed.
-#[tactic(auto, unfolding(ql_tree::specs::Printed::printed))]
+/// The text of the tree: single spaces, lower-case operators, and no bracket that isn't needed. Of
+/// a tree that some text spells it is a text that spells that tree again.
+#[tactic(auto, unfolding(ql_tree::specs::Printed::printed), using(crate::proofs::SpelledAgain::printed_again))]
 pub fn print(alloc: Global, expr: &Expr) -> Result<Text, NoMemory>
-    ensures { IfOk result (λ text. text ≡ spec.printed expr.now) }
+    ensures text { IfOk result (λ text. text ≡ spec.printed expr.now) }
+    ensures spells { (text : List ℕ) → Spells expr.now text → Spells expr.now (spec.printed expr.now) }
 {
     let mut text = Text::new(alloc);
     push_tree(alloc, &mut text, expr)?;

@@ -42,7 +42,7 @@ run_passes p (b ∷ bs) = first_byte (p b) refl (run_passes p bs)
 pub run_of_word : (n : ℕ) (bs : List ℕ) → n ≡ run_at bs → list_all is_metric_byte (take n bs) ≡ true
 run_of_word n bs e = subst (λ k. list_all is_metric_byte (take k bs) ≡ true) (sym e) (run_passes is_metric_byte bs)
 
-metric_ascii : (b : ℕ) → is_metric_byte b ≡ true → b < 128
+pub metric_ascii : (b : ℕ) → is_metric_byte b ≡ true → b < 128
 metric_ascii b h = grind (arith, nat_tests)
 
 word_ascii : (bs : List ℕ) → list_all is_metric_byte bs ≡ true → IsAscii bs

@@ -1,3 +1,3 @@
 mod CutLemmas
-mod DigitLemmas
+pub mod DigitLemmas
 mod StringLemmas

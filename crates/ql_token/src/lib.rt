@@ -13,6 +13,7 @@ mod strings;
 pub use cut::tokens;
 pub use fault::TokenFault;
 pub use ql_tree::{Token, TokenKind};
+pub use strings::escape;
 
 #[cfg(test)]
 mod tests;

@@ -143,9 +143,10 @@ fn short_escape(quote: u8, e: u8) -> Option<(u32, usize)>
     }
 }
 
-/// The escape behind a backslash: its character, and how many bytes it takes.
+/// The escape behind a backslash in a string with that quote: its character, and how many bytes it
+/// takes; none where the bytes begin with no escape.
 #[tactic(auto, unfolding(ql_tree::specs::Strings::escape_at))]
-fn escape(quote: u8, bytes: &[u8]) -> Option<(u32, usize)>
+pub fn escape(quote: u8, bytes: &[u8]) -> Option<(u32, usize)>
     ensures escape { result ≡ spec.escape_at quote bytes.now }
     ensures within { IfSome result (λ found. found.1 ≤ length bytes.now) }
 {

@@ -1,3 +1,4 @@
+pub mod Inherited
 pub mod NodeLemmas
 mod Rows
 mod ShapeLemmas

@@ -1,0 +1,38 @@
+-- The readers of the code, with what they read between brackets.
+use Rattle.std.specs.Prelude.{ℕ, ◌+◌, List}
+use Rattle.ql_tree.specs.declared.tree.AggregateOp.{AggregateOp}
+use Rattle.ql_tree.specs.declared.tree.Expr.{Expr}
+use Rattle.ql_parse.specs.Found.{Reader, ◌>>=◌}
+use Rattle.ql_parse.specs.ReadTerms.{Operated, atom, name, call, call_arguments, operands, aggregate, closed}
+use Rattle.ql_parse.specs.Reading.{chain, level, within}
+
+-- what stands between operators and signs, where n brackets may be opened
+abbrev pub atom_in : ℕ → ℕ → Reader Expr
+atom_in n d = atom n (within n) d
+
+-- operators up to the level k, and what is between them
+abbrev pub operand : ℕ → ℕ → ℕ → Reader Expr
+operand k n d = level k n (atom n (within n)) d
+
+-- operators of the level behind k, at most m
+abbrev pub chained : ℕ → ℕ → ℕ → ℕ → Expr → Reader Expr
+chained k n d m left = chain m n d (k + 1) (operand k n d) left
+
+abbrev pub bracketed : ℕ → ℕ → Reader Expr
+bracketed n d ts = within n d ts >>= λ e. closed e.0 e.1
+
+-- what begins with a name
+abbrev pub name_in : ℕ → ℕ → List ℕ → Reader Expr
+name_in n d text = name n (within n d) d text
+
+abbrev pub call_of : ℕ → ℕ → List ℕ → Reader Expr
+call_of n d function = call n (within n d) d function
+
+abbrev pub arguments_in : ℕ → ℕ → Reader (List Expr)
+arguments_in n d = call_arguments (within n d)
+
+abbrev pub operands_in : ℕ → ℕ → Reader Operated
+operands_in n d = operands (within n d)
+
+abbrev pub aggregate_in : ℕ → ℕ → AggregateOp → Reader Expr
+aggregate_in n d op = aggregate n (within n d) d op

@@ -1,0 +1,15 @@
+pub mod Climbing
+pub mod Cutting
+pub mod Found
+pub mod FrontWords
+pub mod Gives
+pub mod LabelStep
+pub mod MatcherStep
+pub mod Next
+pub mod Placed
+pub mod ReadClauses
+pub mod ReadSelectors
+pub mod ReadTerms
+pub mod Reading
+pub mod Trees
+pub mod Unescaped

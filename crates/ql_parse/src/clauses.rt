@@ -1,0 +1,179 @@
+ghost use Rattle.std.specs.Prelude.{◌≡◌, length};
+ghost use Rattle.ql_parse.specs.Gives.{Gives};
+ghost use Rattle.ql_parse.specs.LabelStep.{IsLabelStep, IsBehindLabel};
+ghost use Rattle.ql_parse.specs.ReadClauses as reading;
+
+use crate::fault::ParseFault;
+use crate::fronts::{
+    begins_open, bool_word, close, comma, grouping_word, label, matching_word, open, side_word,
+};
+use op_base::{List, Text};
+use ql_tree::{Grouping, Matching, Side, Word};
+use std::alloc::Global;
+
+enum Step<'a> {
+    /// No label is left.
+    End(&'a [Word]),
+    Last(&'a Text, &'a [Word]),
+    More(&'a Text, &'a [Word]),
+    Broken,
+}
+
+/// The next label, and what follows it.
+#[tactic(auto, unfolding(crate::specs::ReadClauses::labels))]
+fn next_label(words: &[Word]) -> Step<'_>
+    ensures { IsLabelStep words.now result }
+{
+    if let Some(rest) = close(words) {
+        return Step::End(rest);
+    }
+    match label(words) {
+        Some((text, rest)) => behind_label(text, rest),
+        None => Step::Broken,
+    }
+}
+
+fn behind_label<'a>(text: &'a Text, words: &'a [Word]) -> Step<'a>
+    ensures { IsBehindLabel text.now words.now result }
+{
+    if let Some(rest) = close(words) {
+        return Step::Last(text, rest);
+    }
+    match comma(words) {
+        Some(rest) => Step::More(text, rest),
+        None => Step::Broken,
+    }
+}
+
+/// Labels with a comma between each two and perhaps one behind the last, and the bracket that
+/// closes them.
+fn labels(alloc: Global, words: &[Word]) -> Result<(List<Text>, &[Word]), ParseFault>
+    ensures { Gives (λ x. (x.0, x.1.now)) result (reading.labels (length words.now) words.now) }
+{
+    let mut found = List::new(alloc);
+    let mut rest = words;
+    for step in 0..words.len() {
+        match next_label(rest) {
+            Step::End(behind) => return Ok((found, behind)),
+            Step::Last(text, behind) => {
+                found.push(Text::from_str(alloc, text.as_str())?)?;
+                return Ok((found, behind));
+            }
+            Step::More(text, behind) => {
+                found.push(Text::from_str(alloc, text.as_str())?)?;
+                rest = behind;
+            }
+            Step::Broken => return Err(ParseFault::NotExpr),
+        }
+    }
+    Err(ParseFault::NotExpr)
+}
+
+/// Labels between round brackets, of which `room` may be opened.
+#[tactic(auto, unfolding(crate::specs::ReadClauses::label_list))]
+fn label_list(
+    alloc: Global,
+    room: usize,
+    words: &[Word],
+) -> Result<(List<Text>, &[Word]), ParseFault>
+    ensures { Gives (λ x. (x.0, x.1.now)) result (reading.label_list room words.now) }
+{
+    if room == 0 {
+        return Err(ParseFault::NotExpr);
+    }
+    match open(words) {
+        Some(rest) => labels(alloc, rest),
+        None => Err(ParseFault::NotExpr),
+    }
+}
+
+/// Behind a `group_` word: its list, where a bracket follows.
+fn side_behind(
+    alloc: Global,
+    room: usize,
+    left: bool,
+    words: &[Word],
+) -> Result<(Option<Side>, &[Word]), ParseFault>
+    ensures { Gives (λ x. (x.0, x.1.now)) result (reading.side_behind room left words.now) }
+{
+    if begins_open(words) {
+        let (include, rest) = label_list(alloc, room, words)?;
+        Ok((Some(Side { left, include }), rest))
+    } else {
+        let include = List::new(alloc);
+        Ok((Some(Side { left, include }), words))
+    }
+}
+
+/// A `group_` clause, or nothing.
+#[tactic(auto, unfolding(crate::specs::ReadClauses::side))]
+fn side(alloc: Global, room: usize, words: &[Word]) -> Result<(Option<Side>, &[Word]), ParseFault>
+    ensures { Gives (λ x. (x.0, x.1.now)) result (reading.side room words.now) }
+{
+    match side_word(words) {
+        Some((left, rest)) => side_behind(alloc, room, left, rest),
+        None => Ok((None, words)),
+    }
+}
+
+/// Behind `on` or `ignoring`: its labels, and a `group_` clause or nothing.
+fn matching_behind(
+    alloc: Global,
+    room: usize,
+    on: bool,
+    words: &[Word],
+) -> Result<(Option<Matching>, &[Word]), ParseFault>
+    ensures { Gives (λ x. (x.0, x.1.now)) result
+        (reading.matching_at room words.now (Some (on, words.now))) }
+{
+    let (labels, rest) = label_list(alloc, room, words)?;
+    let (side, rest) = side(alloc, room, rest)?;
+    Ok((Some(Matching { on, labels, side }), rest))
+}
+
+/// `on` or `ignoring` with its labels and a `group_` clause or none, or nothing.
+#[tactic(auto, unfolding(crate::specs::ReadClauses::matching))]
+pub(crate) fn matching(
+    alloc: Global,
+    room: usize,
+    words: &[Word],
+) -> Result<(Option<Matching>, &[Word]), ParseFault>
+    ensures { Gives (λ x. (x.0, x.1.now)) result (reading.matching room words.now) }
+{
+    match matching_word(words) {
+        Some((on, rest)) => matching_behind(alloc, room, on, rest),
+        None => Ok((None, words)),
+    }
+}
+
+/// Whether `bool` stands behind a comparison, and the words behind it.
+#[tactic(auto, unfolding(crate::specs::ReadClauses::boolean))]
+pub(crate) fn boolean(comparison: bool, words: &[Word]) -> (bool, &[Word])
+    ensures { (result.0, result.1.now) ≡ reading.boolean comparison words.now }
+{
+    if !comparison {
+        return (false, words);
+    }
+    match bool_word(words) {
+        Some(rest) => (true, rest),
+        None => (false, words),
+    }
+}
+
+/// `by` or `without` with its labels, or nothing.
+#[tactic(auto, unfolding(crate::specs::ReadClauses::grouping))]
+pub(crate) fn grouping(
+    alloc: Global,
+    room: usize,
+    words: &[Word],
+) -> Result<(Option<Grouping>, &[Word]), ParseFault>
+    ensures { Gives (λ x. (x.0, x.1.now)) result (reading.grouping room words.now) }
+{
+    match grouping_word(words) {
+        Some((by, rest)) => {
+            let (labels, rest) = label_list(alloc, room, rest)?;
+            Ok((Some(Grouping { by, labels }), rest))
+        }
+        None => Ok((None, words)),
+    }
+}

@@ -1,0 +1,238 @@
+ghost use Rattle.std.specs.Prelude.{◌≡◌};
+ghost use Rattle.std.specs.Option.{option_map};
+ghost use Rattle.ql_tree.specs.Operators.{sign_of, matching_of, side_of, grouping_of};
+ghost use Rattle.ql_tree.specs.Selecting.{match_of};
+ghost use Rattle.ql_tree.specs.Spells.{is_open};
+ghost use Rattle.ql_tree.specs.Spells as spells;
+ghost use Rattle.ql_parse.specs.Found as found;
+ghost use Rattle.ql_parse.specs.FrontWords as spec;
+ghost use Rattle.ql_parse.specs.Next.{IsNext};
+
+use op_base::{MatchOp, Span, Text, is_label_name};
+use ql_tree::{Keyword, Word};
+
+/// The words behind `(`, where it is the first.
+pub(crate) fn open(words: &[Word]) -> Option<&[Word]>
+    ensures { option_map (λ rest. rest.now) result ≡ found.behind is_open words.now }
+{
+    match words {
+        [Word::Open, rest @ ..] => Some(rest),
+        _ => None,
+    }
+}
+
+pub(crate) fn close(words: &[Word]) -> Option<&[Word]>
+    ensures { option_map (λ rest. rest.now) result ≡ found.behind spec.is_close words.now }
+{
+    match words {
+        [Word::Close, rest @ ..] => Some(rest),
+        _ => None,
+    }
+}
+
+pub(crate) fn comma(words: &[Word]) -> Option<&[Word]>
+    ensures { option_map (λ rest. rest.now) result ≡ found.behind spec.is_comma words.now }
+{
+    match words {
+        [Word::Comma, rest @ ..] => Some(rest),
+        _ => None,
+    }
+}
+
+pub(crate) fn open_brace(words: &[Word]) -> Option<&[Word]>
+    ensures { option_map (λ rest. rest.now) result ≡ found.behind spec.is_open_brace words.now }
+{
+    match words {
+        [Word::OpenBrace, rest @ ..] => Some(rest),
+        _ => None,
+    }
+}
+
+pub(crate) fn close_brace(words: &[Word]) -> Option<&[Word]>
+    ensures { option_map (λ rest. rest.now) result ≡ found.behind spec.is_close_brace words.now }
+{
+    match words {
+        [Word::CloseBrace, rest @ ..] => Some(rest),
+        _ => None,
+    }
+}
+
+pub(crate) fn open_square(words: &[Word]) -> Option<&[Word]>
+    ensures { option_map (λ rest. rest.now) result ≡ found.behind spec.is_open_square words.now }
+{
+    match words {
+        [Word::OpenSquare, rest @ ..] => Some(rest),
+        _ => None,
+    }
+}
+
+pub(crate) fn close_square(words: &[Word]) -> Option<&[Word]>
+    ensures { option_map (λ rest. rest.now) result ≡ found.behind spec.is_close_square words.now }
+{
+    match words {
+        [Word::CloseSquare, rest @ ..] => Some(rest),
+        _ => None,
+    }
+}
+
+pub(crate) fn minus(words: &[Word]) -> Option<&[Word]>
+    ensures { option_map (λ rest. rest.now) result ≡ found.behind spec.is_minus words.now }
+{
+    match words {
+        [Word::Minus, rest @ ..] => Some(rest),
+        _ => None,
+    }
+}
+
+pub(crate) fn offset_word(words: &[Word]) -> Option<&[Word]>
+    ensures { option_map (λ rest. rest.now) result ≡ found.behind spec.is_offset words.now }
+{
+    match words {
+        [Word::Name(Keyword::Offset, _), rest @ ..] => Some(rest),
+        _ => None,
+    }
+}
+
+pub(crate) fn bool_word(words: &[Word]) -> Option<&[Word]>
+    ensures { option_map (λ rest. rest.now) result ≡ found.behind spec.is_bool words.now }
+{
+    match words {
+        [Word::Name(Keyword::Bool, _), rest @ ..] => Some(rest),
+        _ => None,
+    }
+}
+
+/// The label that the first word is, and the words behind it.
+pub(crate) fn label(words: &[Word]) -> Option<(&Text, &[Word])>
+    ensures { option_map (λ x. (x.0.now, x.1.now)) result ≡ found.first spec.label_of words.now }
+{
+    match words {
+        [Word::Name(_, text), rest @ ..] => {
+            if is_label_name(text.as_str()) {
+                Some((text, rest))
+            } else {
+                None
+            }
+        }
+        _ => None,
+    }
+}
+
+/// The name that the first word is, where it isn't reserved.
+pub(crate) fn plain(words: &[Word]) -> Option<(&Text, &[Word])>
+    ensures { option_map (λ x. (x.0.now, x.1.now)) result ≡ found.first spec.plain_of words.now }
+{
+    match words {
+        [Word::Name(Keyword::Plain, text), rest @ ..] => Some((text, rest)),
+        _ => None,
+    }
+}
+
+pub(crate) fn quoted(words: &[Word]) -> Option<(&Text, &[Word])>
+    ensures { option_map (λ x. (x.0.now, x.1.now)) result ≡ found.first spec.quoted_of words.now }
+{
+    match words {
+        [Word::Quoted(text), rest @ ..] => Some((text, rest)),
+        _ => None,
+    }
+}
+
+pub(crate) fn duration(words: &[Word]) -> Option<(Span, &[Word])>
+    ensures { option_map (λ x. (x.0, x.1.now)) result ≡ found.first spec.length_of words.now }
+{
+    match words {
+        [Word::Duration(span), rest @ ..] => Some((*span, rest)),
+        _ => None,
+    }
+}
+
+/// The matching operator that the first word is.
+#[tactic(auto, unfolding(ql_tree::specs::Selecting::match_of))]
+pub(crate) fn match_op(words: &[Word]) -> Option<(MatchOp, &[Word])>
+    ensures { option_map (λ x. (x.0, x.1.now)) result ≡ found.first match_of words.now }
+{
+    match words {
+        [Word::Assign, rest @ ..] => Some((MatchOp::Eq, rest)),
+        [Word::NotEqual, rest @ ..] => Some((MatchOp::Ne, rest)),
+        [Word::Match, rest @ ..] => Some((MatchOp::Re, rest)),
+        [Word::NotMatch, rest @ ..] => Some((MatchOp::Nr, rest)),
+        _ => None,
+    }
+}
+
+/// Whether the sign that the first word is is a minus.
+#[tactic(auto, unfolding(ql_tree::specs::Operators::sign_of))]
+pub(crate) fn sign(words: &[Word]) -> Option<(bool, &[Word])>
+    ensures { option_map (λ x. (x.0, x.1.now)) result ≡ found.first sign_of words.now }
+{
+    match words {
+        [Word::Minus, rest @ ..] => Some((true, rest)),
+        [Word::Plus, rest @ ..] => Some((false, rest)),
+        _ => None,
+    }
+}
+
+/// True for `on`, false for `ignoring`.
+#[tactic(auto, unfolding(ql_tree::specs::Operators::matching_of))]
+pub(crate) fn matching_word(words: &[Word]) -> Option<(bool, &[Word])>
+    ensures { option_map (λ x. (x.0, x.1.now)) result ≡ found.first matching_of words.now }
+{
+    match words {
+        [Word::Name(Keyword::On, _), rest @ ..] => Some((true, rest)),
+        [Word::Name(Keyword::Ignoring, _), rest @ ..] => Some((false, rest)),
+        _ => None,
+    }
+}
+
+/// True for `group_left`, false for `group_right`.
+#[tactic(auto, unfolding(ql_tree::specs::Operators::side_of))]
+pub(crate) fn side_word(words: &[Word]) -> Option<(bool, &[Word])>
+    ensures { option_map (λ x. (x.0, x.1.now)) result ≡ found.first side_of words.now }
+{
+    match words {
+        [Word::Name(Keyword::GroupLeft, _), rest @ ..] => Some((true, rest)),
+        [Word::Name(Keyword::GroupRight, _), rest @ ..] => Some((false, rest)),
+        _ => None,
+    }
+}
+
+/// True for `by`, false for `without`.
+#[tactic(auto, unfolding(ql_tree::specs::Operators::grouping_of))]
+pub(crate) fn grouping_word(words: &[Word]) -> Option<(bool, &[Word])>
+    ensures { option_map (λ x. (x.0, x.1.now)) result ≡ found.first grouping_of words.now }
+{
+    match words {
+        [Word::Name(Keyword::By, _), rest @ ..] => Some((true, rest)),
+        [Word::Name(Keyword::Without, _), rest @ ..] => Some((false, rest)),
+        _ => None,
+    }
+}
+
+/// Whether the words begin with `(`.
+pub(crate) fn begins_open(words: &[Word]) -> bool
+    ensures { result ≡ spells.begins_open words.now }
+{
+    match words {
+        [Word::Open, _rest @ ..] => true,
+        _ => false,
+    }
+}
+
+/// What follows an argument.
+pub(crate) enum Next<'a> {
+    End(&'a [Word]),
+    More(&'a [Word]),
+    Broken,
+}
+
+pub(crate) fn behind_item(words: &[Word]) -> Next<'_>
+    ensures { IsNext words.now result }
+{
+    if let Some(rest) = close(words) {
+        return Next::End(rest);
+    }
+    match comma(words) {
+        Some(rest) => Next::More(rest),
+        None => Next::Broken,
+    }
+}

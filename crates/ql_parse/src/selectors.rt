@@ -1,0 +1,236 @@
+ghost use Rattle.std.specs.Prelude.{◌≡◌, length, Some, IfOk};
+ghost use Rattle.std.specs.List.{list_any};
+ghost use Rattle.ql_tree.specs.Children.{depth_of};
+ghost use Rattle.ql_tree.specs.Selecting.{is_on_name};
+ghost use Rattle.ql_parse.specs.Gives.{Gives};
+ghost use Rattle.ql_parse.specs.MatcherStep.{IsMatcherStep, IsBehindMatcher};
+ghost use Rattle.ql_parse.specs.ReadSelectors as reading;
+
+use crate::fault::ParseFault;
+use crate::fronts::{
+    close_brace, close_square, comma, duration, label, match_op, minus, offset_word, open_brace,
+    open_square, plain, quoted,
+};
+use op_base::{List, Matcher, NoMemory, Span, Text};
+use ql_tree::{Expr, Word};
+use std::alloc::Global;
+
+/// A label, an operator and a string.
+#[tactic(auto, unfolding(crate::specs::ReadSelectors::matcher))]
+fn matcher(alloc: Global, words: &[Word]) -> Result<(Matcher, &[Word]), ParseFault>
+    ensures { Gives (λ x. (x.0, x.1.now)) result (reading.matcher words.now) }
+{
+    let Some((name, rest)) = label(words) else {
+        return Err(ParseFault::NotExpr);
+    };
+    let Some((op, rest)) = match_op(rest) else {
+        return Err(ParseFault::NotExpr);
+    };
+    let Some((value, rest)) = quoted(rest) else {
+        return Err(ParseFault::NotExpr);
+    };
+    let name = Text::from_str(alloc, name.as_str())?;
+    let value = Text::from_str(alloc, value.as_str())?;
+    Ok((Matcher { name, op, value }, rest))
+}
+
+enum Step<'a> {
+    /// No matcher is left.
+    End(&'a [Word]),
+    Last(Matcher, &'a [Word]),
+    More(Matcher, &'a [Word]),
+    Broken,
+}
+
+/// The next matcher, and what follows it.
+#[tactic(auto, unfolding(crate::specs::ReadSelectors::matchers))]
+fn next_matcher(alloc: Global, words: &[Word]) -> Result<Step<'_>, NoMemory>
+    ensures { IfOk result (IsMatcherStep words.now) }
+{
+    if let Some(rest) = close_brace(words) {
+        return Ok(Step::End(rest));
+    }
+    match matcher(alloc, words) {
+        Ok((one, rest)) => Ok(behind_matcher(one, rest)),
+        Err(ParseFault::NotExpr) => Ok(Step::Broken),
+        Err(ParseFault::NoMemory) => Err(NoMemory),
+    }
+}
+
+fn behind_matcher(one: Matcher, words: &[Word]) -> Step<'_>
+    ensures { IsBehindMatcher one words.now result }
+{
+    if let Some(rest) = close_brace(words) {
+        return Step::Last(one, rest);
+    }
+    match comma(words) {
+        Some(rest) => Step::More(one, rest),
+        None => Step::Broken,
+    }
+}
+
+/// Matchers with a comma between each two and perhaps one behind the last, and the brace that
+/// closes them.
+fn matchers(alloc: Global, words: &[Word]) -> Result<(List<Matcher>, &[Word]), ParseFault>
+    ensures { Gives (λ x. (x.0, x.1.now)) result (reading.matchers (length words.now) words.now) }
+{
+    let mut found = List::new(alloc);
+    let mut rest = words;
+    for step in 0..words.len() {
+        match next_matcher(alloc, rest)? {
+            Step::End(behind) => return Ok((found, behind)),
+            Step::Last(one, behind) => {
+                found.push(one)?;
+                return Ok((found, behind));
+            }
+            Step::More(one, behind) => {
+                found.push(one)?;
+                rest = behind;
+            }
+            Step::Broken => return Err(ParseFault::NotExpr),
+        }
+    }
+    Err(ParseFault::NotExpr)
+}
+
+#[tactic(auto, unfolding(crate::specs::ReadSelectors::braces))]
+fn braces(alloc: Global, words: &[Word]) -> Result<(List<Matcher>, &[Word]), ParseFault>
+    ensures { Gives (λ x. (x.0, x.1.now)) result (reading.braces words.now) }
+{
+    match open_brace(words) {
+        Some(rest) => matchers(alloc, rest),
+        None => Err(ParseFault::NotExpr),
+    }
+}
+
+/// Behind a selector's name: its matchers, none of them on `__name__`, or nothing.
+fn named<'a>(
+    alloc: Global,
+    name: &Text,
+    words: &'a [Word],
+) -> Result<(Option<Text>, List<Matcher>, &'a [Word]), ParseFault>
+    ensures { Gives (λ x. ((x.0, x.1), x.2.now)) result
+        (reading.head_at words.now (Some (name.now, words.now))) }
+{
+    let name = Text::from_str(alloc, name.as_str())?;
+    if open_brace(words).is_none() {
+        return Ok((Some(name), List::new(alloc), words));
+    }
+    let (found, rest) = braces(alloc, words)?;
+    if has_name(found.as_slice()) {
+        return Err(ParseFault::NotExpr);
+    }
+    Ok((Some(name), found, rest))
+}
+
+fn has_name(matchers: &[Matcher]) -> bool
+    ensures { result ≡ list_any is_on_name matchers.now }
+{
+    matchers.iter().any(|m| is_on_name(m))
+}
+
+fn is_on_name(m: &Matcher) -> bool
+    ensures { result ≡ is_on_name m.now }
+{
+    m.name.as_str() == "__name__"
+}
+
+/// A selector's name, if it has one, and its matchers.
+#[tactic(auto, unfolding(crate::specs::ReadSelectors::head))]
+fn head(alloc: Global, words: &[Word]) -> Result<(Option<Text>, List<Matcher>, &[Word]), ParseFault>
+    ensures { Gives (λ x. ((x.0, x.1), x.2.now)) result (reading.head words.now) }
+{
+    match plain(words) {
+        Some((name, rest)) => named(alloc, name, rest),
+        None => {
+            let (found, rest) = braces(alloc, words)?;
+            Ok((None, found, rest))
+        }
+    }
+}
+
+/// A duration above 0 in square brackets, or nothing.
+#[tactic(auto, unfolding(crate::specs::ReadSelectors::range))]
+fn range(words: &[Word]) -> Result<(Option<Span>, &[Word]), ParseFault>
+    ensures { Gives (λ x. (x.0, x.1.now)) result (reading.range words.now) }
+{
+    match open_square(words) {
+        Some(rest) => range_behind(rest),
+        None => Ok((None, words)),
+    }
+}
+
+fn range_behind(words: &[Word]) -> Result<(Option<Span>, &[Word]), ParseFault>
+    ensures { Gives (λ x. (x.0, x.1.now)) result (reading.range_at words.now (Some words.now)) }
+{
+    let Some((span, rest)) = duration(words) else {
+        return Err(ParseFault::NotExpr);
+    };
+    let Some(rest) = close_square(rest) else {
+        return Err(ParseFault::NotExpr);
+    };
+    if span.0 > 0 {
+        Ok((Some(span), rest))
+    } else {
+        Err(ParseFault::NotExpr)
+    }
+}
+
+/// `offset` with a duration, which a minus makes negative, or nothing.
+#[tactic(auto, unfolding(crate::specs::ReadSelectors::offset))]
+fn offset(words: &[Word]) -> Result<(Option<Span>, &[Word]), ParseFault>
+    ensures { Gives (λ x. (x.0, x.1.now)) result (reading.offset words.now) }
+{
+    match offset_word(words) {
+        Some(rest) => offset_behind(rest),
+        None => Ok((None, words)),
+    }
+}
+
+fn offset_behind(words: &[Word]) -> Result<(Option<Span>, &[Word]), ParseFault>
+    ensures { Gives (λ x. (x.0, x.1.now)) result (reading.offset_at words.now (Some words.now)) }
+{
+    match minus(words) {
+        Some(rest) => ahead(rest),
+        None => match duration(words) {
+            Some((span, rest)) => Ok((Some(span), rest)),
+            None => Err(ParseFault::NotExpr),
+        },
+    }
+}
+
+/// Behind an offset's minus.
+fn ahead(words: &[Word]) -> Result<(Option<Span>, &[Word]), ParseFault>
+    ensures { Gives (λ x. (x.0, x.1.now)) result (reading.offset_by words.now (Some words.now)) }
+{
+    match duration(words) {
+        Some((span, rest)) => {
+            if span.0 >= 0 {
+                Ok((Some(Span(-span.0)), rest))
+            } else {
+                Err(ParseFault::NotExpr)
+            }
+        }
+        None => Err(ParseFault::NotExpr),
+    }
+}
+
+/// A selector, with its range and offset.
+#[tactic(auto, using(crate::proofs::NodeDepths::depths_of_nodes), unfolding(crate::specs::ReadSelectors::selector))]
+pub(crate) fn selector(alloc: Global, words: &[Word]) -> Result<(Expr, &[Word]), ParseFault>
+    ensures read { Gives (λ x. (x.0, x.1.now)) result (reading.selector words.now) }
+    ensures depth { IfOk result (λ x. depth_of x.0 ≡ 1) }
+{
+    let (name, matchers, rest) = head(alloc, words)?;
+    let (range, rest) = range(rest)?;
+    let (offset, rest) = offset(rest)?;
+    Ok((
+        Expr::Select {
+            name,
+            matchers,
+            range,
+            offset,
+        },
+        rest,
+    ))
+}
