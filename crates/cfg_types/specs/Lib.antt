@@ -1,5 +1,4 @@
 pub mod Jobs
-pub mod Selectors
 pub mod Steps
 pub mod Texts
 pub mod Written

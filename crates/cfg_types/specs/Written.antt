@@ -8,12 +8,12 @@ use Rattle.cfg_types.specs.declared.config.RuleFile.{RuleFile}
 use Rattle.cfg_types.specs.declared.config.Group.{Group}
 use Rattle.cfg_types.specs.declared.config.Rule.{Rule}
 use Rattle.cfg_types.specs.Jobs.{job_json, HasText, HasJobSpans}
-use Rattle.cfg_types.specs.Selectors.{selector_text}
+use Rattle.ql_tree.specs.Printed.{printed}
 use Rattle.cfg_types.specs.Texts.{texts_json, labels_field, span_json}
 
 -- {"expr":EXPR,"labels":LABELS,"record":NAME}
 abbrev pub rule_json : Rule → Json
-rule_json rule = object_of (((codes "expr", text (selector_text rule.expr)) ∷ (codes "record", text rule.name) ∷ []) ++ labels_field rule.labels)
+rule_json rule = object_of (((codes "expr", text (printed rule.expr)) ∷ (codes "record", text rule.name) ∷ []) ++ labels_field rule.labels)
 
 -- {"name":NAME,"rules":[RULE]}
 abbrev pub group_json : Group → Json

@@ -1,5 +1,6 @@
 use crate::job::Job;
-use op_base::{List, Matcher, Span, Tags, Text};
+use op_base::{List, Span, Tags, Text};
+use ql_tree::Expr;
 
 /// What one Prometheus and one Alertmanager are configured with.
 #[derive(Debug, PartialEq, Eq, Drop)]
@@ -38,13 +39,6 @@ pub struct Group {
 #[derive(Debug, PartialEq, Eq, Drop)]
 pub struct Rule {
     pub name: Text,
-    pub expr: PlainSelector,
+    pub expr: Expr,
     pub labels: Tags,
-}
-
-/// The entries of a metric on whose labels all matchers hold.
-#[derive(Debug, PartialEq, Eq, Drop)]
-pub struct PlainSelector {
-    pub name: Text,
-    pub matchers: List<Matcher>,
 }

@@ -8,12 +8,11 @@
 mod config;
 mod job;
 mod jobs;
-mod selector;
 mod steps;
 mod texts;
 mod written;
 
-pub use config::{Config, Group, PlainSelector, PromPart, Rule, RuleFile};
+pub use config::{Config, Group, PromPart, Rule, RuleFile};
 pub use job::{Job, StaticConfig};
 pub use written::{file_text, text};
 

@@ -5,6 +5,7 @@ ghost use Rattle.cfg_types.specs.Written.{HasSpans};
 use super::*;
 use op_base::{List, MatchOp, Matcher, NoMemory, Span, Tags, Text};
 use op_relabel::Step;
+use ql_tree::Expr;
 use std::alloc::Global;
 use std::test::Fail;
 
@@ -85,9 +86,11 @@ fn rule_file(alloc: Global) -> Result<RuleFile, NoMemory> {
         op: MatchOp::Eq,
         value: Text::from_str(alloc, "a")?,
     };
-    let expr = PlainSelector {
-        name: Text::from_str(alloc, "up")?,
+    let expr = Expr::Select {
+        name: Some(Text::from_str(alloc, "up")?),
         matchers: list_of(alloc, matcher)?,
+        range: None,
+        offset: None,
     };
     let rule = Rule {
         name: Text::from_str(alloc, "x")?,

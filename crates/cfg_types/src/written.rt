@@ -6,10 +6,10 @@ ghost use Rattle.cfg_types.specs.Written as spec;
 
 use crate::config::{Config, Group, PromPart, Rule, RuleFile};
 use crate::jobs::jobs_array;
-use crate::selector::selector_text;
 use crate::texts::{put_labels, put_span, texts_value};
 use op_base::{List, NoMemory, Text};
 use op_json::{push_item, put_field, put_text, text_of};
+use ql_rewrite::print;
 use serde_json::{Map, Value};
 use std::alloc::Global;
 
@@ -153,7 +153,7 @@ fn rule_values(alloc: Global, rules: &[Rule]) -> Result<Vec<Value>, NoMemory>
 fn rule_value(alloc: Global, rule: &Rule) -> Result<Value, NoMemory>
     ensures { IfOk result (λ value. shown.view value ≡ data_of (spec.rule_json rule.now)) }
 {
-    let expr = selector_text(&rule.expr)?;
+    let expr = print(alloc, &rule.expr)?;
     let mut fields = Map::new(alloc);
     put_text(&mut fields, alloc, "expr", expr.as_str())?;
     put_text(&mut fields, alloc, "record", rule.name.as_str())?;

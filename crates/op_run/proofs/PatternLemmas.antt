@@ -7,8 +7,12 @@ use Rattle.cfg_types.specs.declared.config.Config.{Config}
 use Rattle.cfg_types.specs.declared.config.RuleFile.{RuleFile}
 use Rattle.cfg_types.specs.declared.config.Group.{Group}
 use Rattle.cfg_types.specs.declared.config.Rule.{Rule}
-use Rattle.op_thin.specs.CompiledPatterns.{RuleHasPatterns, FileHasPatterns, JobsHavePatterns, RulesHavePatterns}
+use Rattle.op_thin.specs.CompiledPatterns.{NodeHasPatterns, RuleHasPatterns, FileHasPatterns, JobsHavePatterns, RulesHavePatterns}
+use Rattle.ql_tree.specs.declared.tree.Expr.{Expr}
+use Rattle.ql_tree.specs.declared.tree.Expr.TheOpen.{Expr-F}
+use Rattle.ql_tree.specs.declared.tree.Expr.TheViews.{out-Expr}
 use Rattle.srv_store.specs.Stores.{HavePatterns}
+use Rattle.srv_rule.specs.Evaluated.{matchers_at}
 use Rattle.srv_rule.specs.Rounds.{Placed, placed_from, placed_in, placed_of, HavePatternsIn}
 use Rattle.srv_run.specs.Served.{CanRun}
 
@@ -16,13 +20,22 @@ matchers_have : (matchers : List Matcher) → AllByRecursion (λ (matcher : Matc
 matchers_have [] h = tt
 matchers_have (m ∷ matchers) h = (h.0, matchers_have matchers h.1)
 
+node_has : (node : Expr-F Expr) → NodeHasPatterns node → HavePatterns (matchers_at node)
+node_has (Expr-F.Number n) h = tt
+node_has (Expr-F.Str text) h = tt
+node_has (Expr-F.Select name matchers range offset) h = matchers_have matchers h
+node_has (Expr-F.Unary minus of) h = tt
+node_has (Expr-F.Binary op boolean m left right) h = tt
+node_has (Expr-F.Call function args) h = tt
+node_has (Expr-F.Aggregate op grouping param of) h = tt
+
 both_have : (xs ys : List Placed) → HavePatternsIn xs → HavePatternsIn ys → HavePatternsIn (xs ++ ys)
 both_have [] ys p q = q
 both_have (x ∷ xs) ys p q = (p.0, both_have xs ys p.1 q)
 
 group_has : (file : RuleFile) (group : List ℕ) (place : ℕ) (rules : List Rule) → AllByRecursion RuleHasPatterns rules → HavePatternsIn (placed_from file group place rules)
 group_has file group place [] h = tt
-group_has file group place (rule ∷ rules) h = (matchers_have rule.expr.matchers h.0, group_has file group (place + 1) rules h.1)
+group_has file group place (rule ∷ rules) h = (node_has (out-Expr rule.expr) h.0, group_has file group (place + 1) rules h.1)
 
 groups_have : (file : RuleFile) (groups : List Group) → AllByRecursion (λ (group : Group). AllByRecursion RuleHasPatterns group.rules) groups
     → HavePatternsIn (flat_map (λ (group : Group). placed_from file group.name 0 group.rules) groups)

@@ -1,40 +1,59 @@
-ghost use Rattle.std.specs.Prelude.{◌≡◌, true, false, IfSome, IfOk, OnOk};
+ghost use Rattle.std.specs.Prelude.{◌≡◌, [], true, false, option_map, IfSome, IfOk, OnOk};
 ghost use Rattle.op_base.specs.Names.{is_namespace};
-ghost use Rattle.op_thin.specs.Items.{IsThinProbe, item_of as meaning_of};
+ghost use Rattle.op_thin.specs.Items.{IsThinProbe};
+ghost use Rattle.op_thin.specs.Items as items;
+ghost use Rattle.op_thin.specs.Judged.{IsTyped};
 ghost use Rattle.op_thin.specs.Objects.{is_taken};
 ghost use Rattle.srv_run.specs.Served.{with_known};
 ghost use Rattle.tenant_world.specs.Runs as spec;
 ghost use Rattle.op_run.specs.Worlds.{world};
-ghost use Rattle.op_run.specs.Inputs.{file_event};
+ghost use Rattle.op_run.specs.Inputs.{item_by, file_event};
 
+use crate::command::Command;
 use crate::files::NamedFile;
 use op_base::{Key, Kind, List, NoMemory, Text};
 use op_report::{Report, View};
-use op_thin::{Item, Objects, ThinProbe, ThinRule, item_of};
+use op_thin::{Item, Objects, ThinProbe, ThinRule, item_of, run_item};
 use srv_run::{Event, Server};
 use std::alloc::Global;
 
-/// Reads the file's bytes, takes the object that they put, and says what is reported of it. The
+/// Where a thin rule's expression stands.
+const EXPR_PATH: &str = "spec.groups[0].rules[0].expr";
+
+/// Reads the file's bytes for the command, takes the object that they put, and says what is reported of it. The
 /// namespace of an object that is taken is known from then on.
 pub fn take_file(
     alloc: Global,
+    command: Command,
     file: &NamedFile,
     objects: &mut Objects,
     server: &mut Server,
 ) -> Result<Report, NoMemory>
     ensures report { IfOk result (λ report. report
-        ≡ spec.item_report file.now.name (meaning_of file.now.bytes)
-        (is_taken objects.old (meaning_of file.now.bytes))) }
+        ≡ spec.item_report file.now.name (item_by command file.now.bytes)
+        (is_taken objects.old (item_by command file.now.bytes))) }
     ensures world { OnOk result (world objects.new server.new.served
-        ≡ spec.next (world objects.old server.old.served) (file_event file.now)) }
+        ≡ spec.next (world objects.old server.old.served) (file_event command file.now)) }
     ensures named { IfOk result (λ report. IfSome report.to
         (λ namespace. is_namespace namespace ≡ true)) }
 {
-    match item_of(alloc, file.bytes.as_slice())? {
+    match read_item(alloc, command, file.bytes.as_slice())? {
         Item::Broken => not_json(alloc, &file.name),
         Item::NotYet => not_yet(&file.name),
         Item::Rule(rule) => take_rule(alloc, &file.name, rule, objects, server),
         Item::Probe(probe) => take_probe(alloc, &file.name, probe, objects, server),
+    }
+}
+
+fn read_item(alloc: Global, command: Command, bytes: &[u8]) -> Result<Item, NoMemory>
+    ensures item { IfOk result (λ item. item ≡ item_by command bytes.now) }
+    ensures named { IfOk result items.IsNamed }
+    ensures judged { IfOk result items.IsJudged }
+{
+    let item = item_of(alloc, bytes)?;
+    match command {
+        Command::Compile => Ok(item),
+        Command::Run => Ok(run_item(item)),
     }
 }
 
@@ -45,7 +64,8 @@ fn take_rule(
     objects: &mut Objects,
     server: &mut Server,
 ) -> Result<Report, NoMemory>
-    requires { is_namespace rule.namespace ≡ true }
+    requires named { is_namespace rule.namespace ≡ true }
+    requires judged { IsTyped rule.judged }
     ensures report { IfOk result (λ report. report ≡ spec.item_report file.now (Item.Rule rule)
         (is_taken objects.old (Item.Rule rule))) }
     ensures world { OnOk result (world objects.new server.new.served
@@ -55,8 +75,10 @@ fn take_rule(
         (λ namespace. is_namespace namespace ≡ true)) }
 {
     let namespace = rule.namespace.clone()?;
-    let report = admitted(alloc, Kind::PrometheusRule, &rule.namespace, &rule.name)?;
+    let key = key_text(alloc, Kind::PrometheusRule, &rule.namespace, &rule.name)?;
+    let broken = rule.judged.skip_rule();
     if objects.put_rule(rule)? {
+        let report = answered(alloc, &namespace, key, broken)?;
         make_known(server, namespace)?;
         Ok(report)
     } else {
@@ -81,8 +103,9 @@ fn take_probe(
         (λ namespace. is_namespace namespace ≡ true)) }
 {
     let namespace = probe.namespace.clone()?;
-    let report = admitted(alloc, Kind::Probe, &probe.namespace, &probe.name)?;
+    let key = key_text(alloc, Kind::Probe, &probe.namespace, &probe.name)?;
     if objects.put_probe(probe)? {
+        let report = answered(alloc, &namespace, key, None)?;
         make_known(server, namespace)?;
         Ok(report)
     } else {
@@ -126,22 +149,56 @@ fn not_yet(file: &Text) -> Result<Report, NoMemory>
     })
 }
 
-fn admitted(alloc: Global, kind: Kind, namespace: &Text, name: &Text) -> Result<Report, NoMemory>
-    ensures { IfOk result (λ report. report ≡ spec.taken_report kind namespace.now name.now) }
+fn key_text(alloc: Global, kind: Kind, namespace: &Text, name: &Text) -> Result<Text, NoMemory>
+    ensures { IfOk result (λ key. key ≡ spec.key_of kind namespace.now name.now) }
 {
     let key = Key {
         kind,
         namespace: namespace.clone()?,
         name: name.clone()?,
     };
+    key.text(alloc)
+}
+
+// What is said of an object that was taken: it is admitted, or the rule skips it.
+fn answered(
+    alloc: Global,
+    namespace: &Text,
+    key: Text,
+    broken: Option<&str>,
+) -> Result<Report, NoMemory>
+    ensures { IfOk result (λ report. report
+        ≡ spec.to_owner namespace.now (spec.answered key (option_map (λ rule. rule.now) broken.entry))) }
+{
+    match broken {
+        None => own_report(alloc, namespace, key, "Admitted", None, None),
+        Some(rule) => {
+            let rule = Text::from_str(alloc, rule)?;
+            let path = Text::from_str(alloc, EXPR_PATH)?;
+            own_report(alloc, namespace, key, "Skipped", Some(rule), Some(path))
+        }
+    }
+}
+
+fn own_report(
+    alloc: Global,
+    namespace: &Text,
+    key: Text,
+    answer: &str,
+    rule: Option<Text>,
+    path: Option<Text>,
+) -> Result<Report, NoMemory>
+    ensures { IfOk result (λ report. report
+        ≡ spec.to_owner namespace.now (View.Own false key answer.now rule path [])) }
+{
     Ok(Report {
         to: Some(namespace.clone()?),
         view: View::Own {
             deleted: false,
-            key: key.text(alloc)?,
-            answer: Text::from_str(alloc, "Admitted")?,
-            rule: None,
-            path: None,
+            key,
+            answer: Text::from_str(alloc, answer)?,
+            rule,
+            path,
             also: List::new(alloc),
         },
     })

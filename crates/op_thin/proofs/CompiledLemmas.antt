@@ -1,7 +1,7 @@
 -- What each configuration has: spans of 0 or more, patterns that are patterns, and rule files that are
 -- those of thin rules.
-use Rattle.std.proofs.Common.{ℕ, List, [], ◌∷◌, map, fold, codes}
-use Rattle.std.specs.List.{AllByRecursion}
+use Rattle.std.proofs.Common.{ℕ, List, [], ◌∷◌, map, fold, codes, option_map}
+use Rattle.std.specs.List.{AllByRecursion, filter_map, cons_option}
 use Rattle.std.specs.Int.Signed.{le_z_yes}
 use Rattle.std.specs.declared.cmp.Ordering.TheVariants.{Less, Equal, Greater}
 use Rattle.std.specs.Ordering.{nat_cmp}
@@ -17,9 +17,14 @@ use Rattle.cfg_types.specs.Written.{HasSpans, file_text}
 use Rattle.cfg_types.specs.declared.config.RuleFile.{RuleFile}
 use Rattle.op_thin.specs.declared.rule.ThinRule.{ThinRule}
 use Rattle.op_thin.specs.declared.probe.ThinProbe.{ThinProbe}
+use Rattle.op_thin.specs.declared.recording.Recording.{Recording}
+use Rattle.op_thin.specs.declared.judged.Judged.{Judged}
+use Rattle.op_thin.specs.declared.judged.Judged.TheVariants.{Tree, NotExpr, IllTyped, Nameless}
+use Rattle.op_thin.specs.Judged.{judged_expr, IsTyped}
+use Rattle.op_thin.proofs.JudgedLemmas.{enforced_patterns}
 use Rattle.op_thin.specs.Objects.{Present, all_of}
 use Rattle.op_thin.specs.FileOrder.{in_order}
-use Rattle.op_thin.specs.Compiled.{ENFORCED_LABEL, enforced_step, probe_steps, job_of, file_of, config_of}
+use Rattle.op_thin.specs.Compiled.{ENFORCED_LABEL, enforced_step, probe_steps, job_of, with_tree, recording_of, file_of, config_of}
 use Rattle.op_thin.specs.CompiledPatterns.{JobHasPatterns, JobsHavePatterns, FileHasPatterns, RulesHavePatterns}
 
 -- what holds of each image holds of all
@@ -50,12 +55,6 @@ all_placed P placed (file ∷ files) there all =
 pub all_in_order : (P : RuleFile → Type 0) (files : List RuleFile) → AllByRecursion P files → AllByRecursion P (in_order files)
 all_in_order P files all = all_placed P [] files tt all
 
--- what holds of each thin rule's file holds of the rule files
-pub files_have : (P : RuleFile → Type 0) (objects : Present) → ((rule : ThinRule) → P (file_of rule))
-    → AllByRecursion P (config_of objects).rules
-files_have P objects holds =
-    all_in_order P (map file_of (all_of objects.rules)) (all_images P file_of (all_of objects.rules) holds)
-
 -- what holds of each thin probe's job holds of the jobs
 pub jobs_have : (P : Job → Type 0) (objects : Present) → ((probe : ThinProbe) → P (job_of probe))
     → AllByRecursion P (config_of objects).prometheus.jobs
@@ -85,6 +84,21 @@ job_patterns probe = (probe_patterns probe, enforced_last probe.namespace)
 pub jobs_patterns : (objects : Present) → JobsHavePatterns (config_of objects)
 jobs_patterns objects = jobs_have JobHasPatterns objects job_patterns
 
+-- a rule whose expression is taken asks for patterns alone
+first_file : (r : ThinRule) (j : Judged) (rest : List Recording) → IsTyped j → AllByRecursion FileHasPatterns (map file_of rest)
+    → AllByRecursion FileHasPatterns (map file_of (cons_option (option_map (with_tree r) (judged_expr j)) rest))
+first_file r (Tree e) rest typed all = (((enforced_patterns ENFORCED_LABEL r.namespace e typed, tt), tt), all)
+first_file r NotExpr rest typed all = all
+first_file r IllTyped rest typed all = all
+first_file r Nameless rest typed all = all
+
+typed_files : (rules : List ThinRule) → AllByRecursion (λ (r : ThinRule). IsTyped r.judged) rules
+    → AllByRecursion FileHasPatterns (map file_of (filter_map recording_of rules))
+typed_files [] all = tt
+typed_files (r ∷ rules) all = first_file r r.judged (filter_map recording_of rules) all.0 (typed_files rules all.1)
+
 -- no rule asks for a pattern that isn't one
-pub rules_patterns : (objects : Present) → RulesHavePatterns (config_of objects)
-rules_patterns objects = files_have FileHasPatterns objects (λ rule. (((tt, tt), tt), tt))
+pub rules_patterns : (objects : Present) → AllByRecursion (λ (r : ThinRule). IsTyped r.judged) (all_of objects.rules)
+    → RulesHavePatterns (config_of objects)
+rules_patterns objects judged =
+    all_in_order FileHasPatterns (map file_of (filter_map recording_of (all_of objects.rules))) (typed_files (all_of objects.rules) judged)

@@ -1,2 +1,5 @@
 pub mod CompiledLemmas
+mod JudgedLemmas
+mod JudgedObjects
+mod NamelessLemmas
 pub mod NamedLemmas

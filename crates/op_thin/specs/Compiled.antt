@@ -1,8 +1,7 @@
 -- The configuration of the objects present, made from them alone. Until settings are read, every
 -- object is selected and enforced with the label `namespace`.
-use Rattle.std.specs.Prelude.{ℕ, pos, List, [], ◌∷◌, false, codes, map}
-use Rattle.op_base.specs.declared.matcher.Matcher.{Matcher}
-use Rattle.op_base.specs.declared.matcher.MatchOp.TheVariants.{Eq}
+use Rattle.std.specs.Prelude.{ℕ, pos, List, [], ◌∷◌, Option, false, codes, map, option_map}
+use Rattle.std.specs.List.{filter_map}
 use Rattle.op_base.specs.declared.span.Span.{Span}
 use Rattle.op_relabel.specs.declared.step.Step.{Step}
 use Rattle.op_relabel.specs.Steps.{copy_step, put_step}
@@ -11,10 +10,13 @@ use Rattle.cfg_types.specs.declared.config.PromPart.{PromPart}
 use Rattle.cfg_types.specs.declared.config.RuleFile.{RuleFile}
 use Rattle.cfg_types.specs.declared.config.Group.{Group}
 use Rattle.cfg_types.specs.declared.config.Rule.{Rule}
-use Rattle.cfg_types.specs.declared.config.PlainSelector.{PlainSelector}
 use Rattle.cfg_types.specs.declared.job.Job.{Job}
+use Rattle.ql_tree.specs.Enforced.{enforced}
+use Rattle.ql_tree.specs.declared.tree.Expr.{Expr}
+use Rattle.op_thin.specs.declared.recording.Recording.{Recording}
 use Rattle.op_thin.specs.declared.rule.ThinRule.{ThinRule}
 use Rattle.op_thin.specs.declared.probe.ThinProbe.{ThinProbe}
+use Rattle.op_thin.specs.Judged.{judged_expr}
 use Rattle.op_thin.specs.Objects.{Present, all_of}
 use Rattle.op_thin.specs.FileOrder.{in_order}
 use Rattle.op_thin.specs.ThinProbes.{job_name}
@@ -22,26 +24,22 @@ use Rattle.op_thin.specs.ThinProbes.{job_name}
 abbrev pub ENFORCED_LABEL : List ℕ
 ENFORCED_LABEL = codes "namespace"
 
--- `namespace="NS"`
-abbrev pub enforced_matcher : List ℕ → Matcher
-enforced_matcher namespace = record { name = ENFORCED_LABEL; op = Eq; value = namespace }
-
--- the metric's entries of the rule's own namespace
-abbrev pub enforced_expr : ThinRule → PlainSelector
-enforced_expr rule = record { name = rule.expr; matchers = enforced_matcher rule.namespace ∷ [] }
+-- each selector asks for entries of the rule's own namespace
+abbrev pub enforced_expr : Recording → Expr
+enforced_expr rule = enforced ENFORCED_LABEL rule.namespace rule.tree
 
 -- the rule with the enforced label among its labels
-abbrev pub config_rule : ThinRule → Rule
+abbrev pub config_rule : Recording → Rule
 config_rule rule = record {
   name = rule.record_name;
   expr = enforced_expr rule;
   labels = (ENFORCED_LABEL, rule.namespace) ∷ [];
 }
 
-abbrev pub group_of : ThinRule → Group
+abbrev pub group_of : Recording → Group
 group_of rule = record { name = rule.group; rules = config_rule rule ∷ [] }
 
-abbrev pub file_of : ThinRule → RuleFile
+abbrev pub file_of : Recording → RuleFile
 file_of rule = record { namespace = rule.namespace; name = rule.name; groups = group_of rule ∷ [] }
 
 -- the enforced label is put last
@@ -88,9 +86,23 @@ prometheus_of probes = record {
   jobs = map job_of probes;
 }
 
+-- the rule with a tree of its expression
+abbrev pub with_tree : ThinRule → Expr → Recording
+with_tree rule tree = record {
+  namespace = rule.namespace;
+  name = rule.name;
+  group = rule.group;
+  record_name = rule.record_name;
+  tree = tree;
+}
+
+-- the rule, where its expression is taken; one whose object is skipped contributes nothing
+abbrev pub recording_of : ThinRule → Option Recording
+recording_of rule = option_map (with_tree rule) (judged_expr rule.judged)
+
 -- the configuration: the jobs, and the rule files in the order of their texts
 abbrev pub config_of : Present → Config
 config_of objects = record {
   prometheus = prometheus_of (all_of objects.probes);
-  rules = in_order (map file_of (all_of objects.rules));
+  rules = in_order (map file_of (filter_map recording_of (all_of objects.rules)));
 }

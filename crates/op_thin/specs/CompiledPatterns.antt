@@ -6,6 +6,9 @@ use Rattle.cfg_types.specs.declared.config.Config.{Config}
 use Rattle.cfg_types.specs.declared.config.RuleFile.{RuleFile}
 use Rattle.cfg_types.specs.declared.config.Rule.{Rule}
 use Rattle.cfg_types.specs.declared.job.Job.{Job}
+use Rattle.ql_tree.specs.declared.tree.Expr.{Expr}
+use Rattle.ql_tree.specs.declared.tree.Expr.TheOpen.{Expr-F}
+use Rattle.ql_tree.specs.declared.tree.Expr.TheViews.{out-Expr}
 
 -- the patterns of a job's steps are patterns
 abbrev pub JobHasPatterns : Job → Type 0
@@ -14,9 +17,20 @@ JobHasPatterns job = HasPatterns job.relabel_configs × HasPatterns job.metric_r
 abbrev pub JobsHavePatterns : Config → Type 0
 JobsHavePatterns config = AllByRecursion JobHasPatterns config.prometheus.jobs
 
--- each matcher of a rule with `=~` or `!~` has a pattern
+-- each matcher of a selector with `=~` or `!~` has a pattern
+abbrev pub NodeHasPatterns : Expr-F Expr → Type 0
+NodeHasPatterns (Expr-F.Number n) = Unit {0}
+NodeHasPatterns (Expr-F.Str text) = Unit {0}
+NodeHasPatterns (Expr-F.Select name matchers range offset) =
+    AllByRecursion (λ matcher. HasPattern matcher.op matcher.value) matchers
+NodeHasPatterns (Expr-F.Unary minus of) = Unit {0}
+NodeHasPatterns (Expr-F.Binary op boolean m left right) = Unit {0}
+NodeHasPatterns (Expr-F.Call function args) = Unit {0}
+NodeHasPatterns (Expr-F.Aggregate op grouping param of) = Unit {0}
+
+-- those of a rule whose expression is a selector
 abbrev pub RuleHasPatterns : Rule → Type 0
-RuleHasPatterns rule = AllByRecursion (λ matcher. HasPattern matcher.op matcher.value) rule.expr.matchers
+RuleHasPatterns rule = NodeHasPatterns (out-Expr rule.expr)
 
 abbrev pub FileHasPatterns : RuleFile → Type 0
 FileHasPatterns file = AllByRecursion (λ group. AllByRecursion RuleHasPatterns group.rules) file.groups

@@ -2,6 +2,8 @@ pub mod Compiled
 pub mod CompiledPatterns
 pub mod FileOrder
 pub mod Items
+pub mod Judged
+pub mod Nameless
 pub mod Objects
 pub mod ThinFields
 pub mod ThinProbes

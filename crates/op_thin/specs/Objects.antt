@@ -1,7 +1,8 @@
 -- The objects that are present: thin rules and thin probes by namespace and name.
 use Rattle.std.specs.Prelude.{ℕ, ◌+◌, List, [], Bool, false, ◌||◌, length, is_some, nat_lt, unwrap_or, if◌then◌else◌}
-use Rattle.std.specs.List.{flat_map}
+use Rattle.std.specs.List.{AllByRecursion, flat_map}
 use Rattle.op_base.specs.Maps.{Map, value_at, values_of, with_inner}
+use Rattle.op_thin.specs.Judged.{IsTyped}
 use Rattle.op_thin.specs.declared.rule.ThinRule.{ThinRule}
 use Rattle.op_thin.specs.declared.probe.ThinProbe.{ThinProbe}
 use Rattle.op_thin.specs.declared.item.Item.{Item}
@@ -69,3 +70,7 @@ objects_after objects item = if is_taken objects item then with_item objects ite
 -- all objects of a kind, by namespace and name
 abbrev pub all_of : {X : Type 0} → Map (Map X) → List X
 all_of objects = flat_map values_of (values_of objects)
+
+-- the expressions of the rules that are taken are scalars or vectors
+abbrev pub AreJudged : Map (Map ThinRule) → Type 0
+AreJudged rules = AllByRecursion (λ inner. AllByRecursion (λ entry. IsTyped entry.1.judged) inner.1) rules

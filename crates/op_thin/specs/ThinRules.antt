@@ -1,21 +1,17 @@
--- Thin rules: a PrometheusRule object with one group of one recording rule over a metric's name.
-use Rattle.std.specs.Prelude.{ℕ, List, [], ◌∷◌, Bool, Option, ◌&&◌, not, codes, option_and_then}
+-- Thin rules: a PrometheusRule object with one group of one recording rule.
+use Rattle.std.specs.Prelude.{ℕ, List, [], ◌∷◌, Option, codes, option_and_then}
 use Rattle.serde_json.specs.Data.{Data}
 use Rattle.serde_json.specs.Find.{get}
 use Rattle.op_base.specs.Names.{is_metric_name}
-use Rattle.ql_tree.specs.Reserved.{is_reserved}
 use Rattle.op_thin.specs.declared.rule.ThinRule.{ThinRule}
+use Rattle.op_thin.specs.Judged.{judged}
 use Rattle.op_thin.specs.ThinFields.{both, checked, text_at, with_only, only_item_at, names_of, object_of_kind}
 
--- a metric name that is no reserved word
-abbrev pub is_plain_name : List ℕ → Bool
-is_plain_name text = is_metric_name text && not (is_reserved text)
-
--- a rule: exactly the metric name `record` and the plain name `expr`
+-- a rule: exactly the metric name `record` and a text `expr`
 abbrev pub rule_of : Data → Option (List ℕ × List ℕ)
 rule_of d = option_and_then (λ rule. both (λ recorded expr. (recorded, expr))
     (checked is_metric_name (text_at (codes "record") rule))
-    (checked is_plain_name (text_at (codes "expr") rule)))
+    (text_at (codes "expr") rule))
     (with_only (codes "expr" ∷ codes "record" ∷ []) d)
 
 -- a group: exactly a text `name` and a list `rules` of one rule
@@ -37,6 +33,7 @@ rule_from names group = record {
   group = group.0;
   record_name = group.1.0;
   expr = group.1.1;
+  judged = judged group.1.1;
 }
 
 -- the thin rule that a JSON value is

@@ -1,6 +1,8 @@
 ghost use Rattle.std.specs.Prelude.{◌≡◌, ◌∷◌, [], map, IfOk, OnOk};
 ghost use Rattle.op_base.specs.Maps.{with_entry};
 ghost use Rattle.cfg_types.specs.Written.{HasSpans, file_text as text_of};
+ghost use Rattle.std.specs.List.{filter_map};
+ghost use Rattle.ql_tree.specs.Enforced.{enforced};
 ghost use Rattle.op_thin.specs.Compiled as spec;
 ghost use Rattle.op_thin.specs.CompiledPatterns.{JobsHavePatterns, RulesHavePatterns};
 ghost use Rattle.op_thin.specs.FileOrder.{files_by_text as files_by_text_of};
@@ -8,12 +10,13 @@ ghost use Rattle.op_thin.specs.ThinProbes.{job_name as job_name_of};
 
 use crate::objects::Objects;
 use crate::probe::ThinProbe;
+use crate::recording::{Recording, recording_of};
 use crate::rule::ThinRule;
-use cfg_types::{
-    Config, Group, Job, PlainSelector, PromPart, Rule, RuleFile, StaticConfig, file_text,
-};
-use op_base::{List, MatchOp, Matcher, NoMemory, Span, Table, Tags, Text};
+use cfg_types::{Config, Group, Job, PromPart, Rule, RuleFile, StaticConfig, file_text};
+use op_base::{List, NoMemory, Span, Table, Tags, Text};
 use op_relabel::Step;
+use ql_rewrite::enforce;
+use ql_tree::Expr;
 use std::alloc::Global;
 
 const ENFORCED_LABEL: &str = "namespace";
@@ -27,7 +30,7 @@ pub fn compile(alloc: Global, objects: Objects) -> Result<Config, NoMemory>
 {
     let (rules, probes) = objects.into_all(alloc)?;
     let prometheus = prometheus_of(alloc, probes)?;
-    let files = files_by_text(alloc, rules)?;
+    let files = files_by_text(alloc, recordings(alloc, rules)?)?;
     Ok(Config {
         prometheus,
         rules: files.into_values(alloc)?,
@@ -102,7 +105,20 @@ fn probe_steps(alloc: Global, probe: &ThinProbe) -> Result<List<Step>, NoMemory>
     Ok(steps)
 }
 
-fn files_by_text(alloc: Global, rules: List<ThinRule>) -> Result<Table<RuleFile>, NoMemory>
+// The rules whose expressions are taken.
+fn recordings(alloc: Global, rules: List<ThinRule>) -> Result<List<Recording>, NoMemory>
+    ensures { IfOk result (λ taken. taken ≡ filter_map spec.recording_of rules) }
+{
+    let mut taken = List::new(alloc);
+    for rule in rules.into_vec() {
+        if let Some(recording) = recording_of(rule) {
+            taken.push(recording)?;
+        }
+    }
+    Ok(taken)
+}
+
+fn files_by_text(alloc: Global, rules: List<Recording>) -> Result<Table<RuleFile>, NoMemory>
     ensures { IfOk result (λ files. files ≡ files_by_text_of (map spec.file_of rules)) }
 {
     let mut files = Table::new(alloc);
@@ -112,7 +128,7 @@ fn files_by_text(alloc: Global, rules: List<ThinRule>) -> Result<Table<RuleFile>
     Ok(files)
 }
 
-fn place(alloc: Global, files: &mut Table<RuleFile>, rule: ThinRule) -> Result<(), NoMemory>
+fn place(alloc: Global, files: &mut Table<RuleFile>, rule: Recording) -> Result<(), NoMemory>
     ensures { OnOk result (files.new ≡ with_entry files.old (text_of (spec.file_of rule)) (spec.file_of rule)) }
 {
     let file = file_from(alloc, rule)?;
@@ -120,19 +136,19 @@ fn place(alloc: Global, files: &mut Table<RuleFile>, rule: ThinRule) -> Result<(
     files.insert(text, file)
 }
 
-fn file_from(alloc: Global, rule: ThinRule) -> Result<RuleFile, NoMemory>
+fn file_from(alloc: Global, rule: Recording) -> Result<RuleFile, NoMemory>
     ensures { IfOk result (λ file. file ≡ spec.file_of rule) }
 {
-    let ThinRule {
+    let Recording {
         namespace,
         name,
         group,
         record_name,
-        expr,
+        tree,
     } = rule;
     let rule = Rule {
         name: record_name,
-        expr: enforced_expr(alloc, expr, &namespace)?,
+        expr: enforced_expr(alloc, &tree, &namespace)?,
         labels: enforced_labels(alloc, &namespace)?,
     };
     let group = Group {
@@ -146,18 +162,13 @@ fn file_from(alloc: Global, rule: ThinRule) -> Result<RuleFile, NoMemory>
     })
 }
 
-fn enforced_expr(alloc: Global, name: Text, namespace: &Text) -> Result<PlainSelector, NoMemory>
-    ensures { IfOk result (λ expr. expr ≡ record { name = name; matchers = spec.enforced_matcher namespace.now ∷ [] }) }
+fn enforced_expr(alloc: Global, tree: &Expr, namespace: &Text) -> Result<Expr, NoMemory>
+    ensures { IfOk result (λ expr. expr ≡ enforced spec.ENFORCED_LABEL namespace.now tree.now) }
 {
-    let matcher = Matcher {
-        name: Text::from_str(alloc, ENFORCED_LABEL)?,
-        op: MatchOp::Eq,
-        value: namespace.clone()?,
-    };
-    Ok(PlainSelector {
-        name,
-        matchers: list_of(alloc, matcher)?,
-    })
+    match enforce(alloc, tree, ENFORCED_LABEL, namespace.as_str(), false) {
+        Ok(expr) => Ok(expr),
+        Err(_) => Err(NoMemory),
+    }
 }
 
 fn enforced_labels(alloc: Global, namespace: &Text) -> Result<Tags, NoMemory>

@@ -3,9 +3,10 @@ ghost use Rattle.serde_json.specs.View.{view};
 ghost use Rattle.op_thin.specs.ThinProbes.{thin_probe_of};
 ghost use Rattle.op_thin.specs.Items as spec;
 
+use crate::judged::Judged;
 use crate::probe::{ThinProbe, thin_probe};
 use crate::rule::{ThinRule, thin_rule};
-use op_base::NoMemory;
+use op_base::{NoMemory, is_metric_name};
 use serde_json::Value;
 use std::alloc::Global;
 
@@ -24,6 +25,7 @@ pub enum Item {
 pub fn item_of(alloc: Global, bytes: &[u8]) -> Result<Item, NoMemory>
     ensures item { IfOk result (λ item. item ≡ spec.item_of bytes.now) }
     ensures named { IfOk result spec.IsNamed }
+    ensures judged { IfOk result spec.IsJudged }
 {
     match read_json(alloc, bytes)? {
         Some(value) => item_of_value(alloc, &value),
@@ -31,14 +33,46 @@ pub fn item_of(alloc: Global, bytes: &[u8]) -> Result<Item, NoMemory>
     }
 }
 
-/// What the bytes of any manifest are names what is well formed.
+/// What a run makes of the item: a rule whose expression is taken and is no metric's name isn't read
+/// yet.
+pub fn run_item(item: Item) -> Item
+    requires named { spec.IsNamed item }
+    requires judged { spec.IsJudged item }
+    ensures item { result ≡ spec.run_item item }
+    ensures named { spec.IsNamed result }
+    ensures judged { spec.IsJudged result }
+{
+    match item {
+        Item::Rule(rule) => {
+            if runs(&rule) {
+                Item::Rule(rule)
+            } else {
+                Item::NotYet
+            }
+        }
+        other => other,
+    }
+}
+
+fn runs(rule: &ThinRule) -> bool
+    ensures { result ≡ spec.runs rule.now.expr rule.now.judged }
+{
+    match &rule.judged {
+        Judged::Tree(_) => is_metric_name(rule.expr.as_str()),
+        _ => true,
+    }
+}
+
+/// What the bytes of any manifest are names what is well formed, and so does what a run makes of it.
 pub fn item_names()
-    ensures { (bytes : List ℕ) → spec.IsNamed (spec.item_of bytes) }
+    ensures item { (bytes : List ℕ) → spec.IsNamed (spec.item_of bytes) }
+    ensures run { (bytes : List ℕ) → spec.IsNamed (spec.run_item (spec.item_of bytes)) }
 {}
 
 fn item_of_value(alloc: Global, value: &Value) -> Result<Item, NoMemory>
     ensures item { IfOk result (λ item. item ≡ spec.item_of_json (Some (view value.now))) }
     ensures named { IfOk result spec.IsNamed }
+    ensures judged { IfOk result spec.IsJudged }
 {
     match thin_rule(alloc, value)? {
         Some(rule) => Ok(Item::Rule(rule)),
@@ -49,6 +83,7 @@ fn item_of_value(alloc: Global, value: &Value) -> Result<Item, NoMemory>
 fn probe_or_not_yet(alloc: Global, value: &Value) -> Result<Item, NoMemory>
     ensures item { IfOk result (λ item. item ≡ spec.item_of_objects None (thin_probe_of (view value.now))) }
     ensures named { IfOk result spec.IsNamed }
+    ensures judged { IfOk result spec.IsJudged }
 {
     match thin_probe(alloc, value)? {
         Some(probe) => Ok(Item::Probe(probe)),

@@ -8,14 +8,18 @@
 mod compiled;
 mod fields;
 mod item;
+mod judged;
 mod objects;
 mod probe;
+mod recording;
 mod rule;
 #[cfg(test)]
 mod tests;
 
 pub use compiled::compile;
-pub use item::{Item, item_names, item_of};
+pub use item::{Item, item_names, item_of, run_item};
+pub use judged::Judged;
 pub use objects::Objects;
 pub use probe::ThinProbe;
+pub use recording::Recording;
 pub use rule::ThinRule;

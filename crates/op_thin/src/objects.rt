@@ -1,5 +1,7 @@
 ghost use Rattle.std.specs.Prelude.{◌≡◌, ◌+◌, nat_lt, length, is_some, IfOk, OnOk, OnErr};
 ghost use Rattle.op_base.specs.Maps.{value_at};
+ghost use Rattle.std.specs.List.{AllByRecursion};
+ghost use Rattle.op_thin.specs.Judged.{IsTyped};
 ghost use Rattle.op_thin.specs.Objects as spec;
 
 use crate::item::Item;
@@ -12,7 +14,8 @@ use std::marker::Model;
 /// How many objects a namespace may have.
 const MOST_OBJECTS: usize = 1000;
 
-/// The objects that are present: thin rules and thin probes by namespace and name.
+/// The objects that are present: thin rules and thin probes by namespace and name. The expression of
+/// each rule that is taken is a scalar or a vector.
 #[derive(Debug, Drop)]
 pub struct Objects {
     alloc: Global,
@@ -21,11 +24,17 @@ pub struct Objects {
 }
 
 impl Model for Objects {
-    ghost use Rattle.op_thin.specs.Objects.{Present};
+    ghost use Rattle.std.specs.Coded.{codes};
+    ghost use Rattle.ql_tree.specs.contracts.tree.Expr as expr;
+    ghost use Rattle.op_thin.specs.Objects.{Present, AreJudged};
 
     ghost Value = { Present };
 
+    ghost coded = { Prim.hlevel (codes, expr.the_row.coded) };
+
     ghost view = { λ objects. record { rules = objects.rules; probes = objects.probes } };
+
+    ghost invariant = { λ objects. AreJudged objects.rules };
 }
 
 impl Objects {
@@ -43,6 +52,7 @@ impl Objects {
     /// Puts the rule, in place of an earlier one of its key. Answers false, and puts nothing, where the
     /// key is new and the namespace is full.
     pub fn put_rule(&mut self, rule: ThinRule) -> Result<bool, NoMemory>
+        requires { IsTyped rule.judged }
         ensures taken { IfOk result (λ taken. taken ≡ spec.rule_fits self.old rule) }
         ensures ok { OnOk result (self.new ≡ spec.objects_after self.old (Item.Rule rule)) }
         ensures err { OnErr result (self.new ≡ self.old) }
@@ -76,7 +86,8 @@ impl Objects {
 
     /// All rules and all probes, each by namespace and name.
     pub fn into_all(self, alloc: Global) -> Result<(List<ThinRule>, List<ThinProbe>), NoMemory>
-        ensures { IfOk result (λ all. all ≡ (spec.all_of self.rules, spec.all_of self.probes)) }
+        ensures all { IfOk result (λ all. all ≡ (spec.all_of self.rules, spec.all_of self.probes)) }
+        ensures judged { IfOk result (λ all. AllByRecursion (λ rule. IsTyped rule.judged) all.0) }
     {
         let Objects {
             alloc: _,

@@ -1,16 +1,18 @@
 ghost use Rattle.std.specs.Prelude.{◌≡◌, option_map, true, Some, IfOk, IfSome};
 ghost use Rattle.serde_json.specs.View.{view};
 ghost use Rattle.op_base.specs.Names as names;
+ghost use Rattle.op_thin.specs.Judged.{IsTyped};
 ghost use Rattle.op_thin.specs.ThinFields.{checked};
 ghost use Rattle.op_thin.specs.ThinRules as spec;
 
 use crate::fields::{Names, names_in, object_of_kind, only_item_at, text_at, with_only};
+use crate::judged::{Judged, judge};
 use op_base::{NoMemory, Text, is_metric_name};
-use ql_tree::is_reserved;
 use serde_json::Value;
 use std::alloc::Global;
 
-/// A PrometheusRule object with one group of one recording rule over a plain metric name.
+/// A PrometheusRule object with one group of one recording rule: the text of its expression, and what
+/// that comes to.
 #[derive(Debug, PartialEq, Eq, Drop)]
 pub struct ThinRule {
     pub namespace: Text,
@@ -18,12 +20,14 @@ pub struct ThinRule {
     pub group: Text,
     pub record_name: Text,
     pub expr: Text,
+    pub judged: Judged,
 }
 
 /// The thin rule that the value is, or none where it has another form.
 pub fn thin_rule(alloc: Global, value: &Value) -> Result<Option<ThinRule>, NoMemory>
     ensures rule { IfOk result (λ rule. rule ≡ spec.thin_rule_of (view value.now)) }
     ensures named { IfOk result (λ rule. IfSome rule (λ r. names.is_namespace r.namespace ≡ true)) }
+    ensures judged { IfOk result (λ rule. IfSome rule (λ r. IsTyped r.judged)) }
 {
     match parts_in(value) {
         Some((names, group)) => Ok(Some(owned_rule(alloc, names, group)?)),
@@ -34,7 +38,8 @@ pub fn thin_rule(alloc: Global, value: &Value) -> Result<Option<ThinRule>, NoMem
 type GroupParts<'a> = (&'a str, (&'a str, &'a str));
 
 fn owned_rule(alloc: Global, names: Names<'_>, group: GroupParts<'_>) -> Result<ThinRule, NoMemory>
-    ensures { IfOk result (λ rule. rule ≡ spec.rule_from (names.entry.0.now, names.entry.1.now)
+    ensures judged { IfOk result (λ rule. IsTyped rule.judged) }
+    ensures rule { IfOk result (λ rule. rule ≡ spec.rule_from (names.entry.0.now, names.entry.1.now)
         (group.entry.0.now, (group.entry.1.0.now, group.entry.1.1.now))) }
 {
     let (namespace, name) = names;
@@ -45,6 +50,7 @@ fn owned_rule(alloc: Global, names: Names<'_>, group: GroupParts<'_>) -> Result<
         group: Text::from_str(alloc, group)?,
         record_name: Text::from_str(alloc, record_name)?,
         expr: Text::from_str(alloc, expr)?,
+        judged: judge(alloc, expr)?,
     })
 }
 
@@ -83,7 +89,7 @@ fn rule_in(value: &Value) -> Option<(&str, &str)>
 {
     let rule = with_only(value, &["expr", "record"])?;
     let record = checked_metric(text_at(rule, "record")?)?;
-    let expr = checked_plain(text_at(rule, "expr")?)?;
+    let expr = text_at(rule, "expr")?;
     Some((record, expr))
 }
 
@@ -91,16 +97,6 @@ fn checked_metric(text: &str) -> Option<&str>
     ensures { option_map (λ t. t.now) result ≡ checked names.is_metric_name (Some text.now) }
 {
     if is_metric_name(text) {
-        Some(text)
-    } else {
-        None
-    }
-}
-
-fn checked_plain(text: &str) -> Option<&str>
-    ensures { option_map (λ t. t.now) result ≡ checked spec.is_plain_name (Some text.now) }
-{
-    if is_metric_name(text) && !is_reserved(text) {
         Some(text)
     } else {
         None

@@ -1,10 +1,14 @@
 use super::*;
+use crate::judged::judge;
 use op_base::NoMemory;
 use std::alloc::Global;
 use std::test::Fail;
 
 const RULE: &str =
     r#"{"apiVersion":"monitoring.coreos.com/v1","kind":"PrometheusRule","metadata":{"name":"r","namespace":"a"},"spec":{"groups":[{"name":"g","rules":[{"expr":"x","record":"a:x"}]}]}}"#;
+
+const SUM: &str =
+    r#"{"apiVersion":"monitoring.coreos.com/v1","kind":"PrometheusRule","metadata":{"name":"r","namespace":"a"},"spec":{"groups":[{"name":"g","rules":[{"expr":"sum(x)","record":"a:x"}]}]}}"#;
 
 const PROBE: &str =
     r#"{"apiVersion":"monitoring.coreos.com/v1","kind":"Probe","metadata":{"name":"p","namespace":"a"},"spec":{"module":null,"prober":{"url":"blackbox:9115"},"targets":{"staticConfig":{"static":["http://shop.example/"]}}}}"#;
@@ -34,6 +38,35 @@ fn a_file_may_be_broken_or_not_read_yet(rt: HostRuntime) -> Result<(), Fail> {
     let alloc = rt.alloc();
     assert!(rt; item_of(alloc, b"{")? == Item::Broken, "no JSON");
     assert!(rt; item_of(alloc, b"5")? == Item::NotYet, "no object");
+    Ok(())
+}
+
+// What is found of an expression: the rule of admission that it breaks, or none.
+fn broken(alloc: Global, expr: &str) -> Result<Option<&'static str>, NoMemory> {
+    let judged = judge(alloc, expr)?;
+    Ok(judged.skip_rule())
+}
+
+#[test]
+fn an_expression_may_skip_its_object(rt: HostRuntime) -> Result<(), Fail> {
+    let alloc = rt.alloc();
+    assert!(rt; broken(alloc, "sum(x) / 2")? == None, "a vector");
+    assert!(rt; broken(alloc, "a +")? == Some("A13"), "no tree spells it");
+    assert!(rt; broken(alloc, "x[5m]")? == Some("A14"), "a range");
+    assert!(rt;
+        broken(alloc, "sum({a=~\".*\"})")? == Some("A15"),
+        "it may select all"
+    );
+    Ok(())
+}
+
+#[test]
+fn a_run_takes_a_metric_alone(rt: HostRuntime) -> Result<(), Fail> {
+    let alloc = rt.alloc();
+    let plain = run_item(item_of(alloc, RULE.as_bytes())?);
+    assert!(rt; plain != Item::NotYet, "a metric's name");
+    let sum = run_item(item_of(alloc, SUM.as_bytes())?);
+    assert!(rt; sum == Item::NotYet, "a call");
     Ok(())
 }
 

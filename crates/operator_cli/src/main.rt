@@ -10,6 +10,10 @@ ghost use Rattle.std.specs.Prelude.{◌≡◌, ◌<◌};
 mod compiling;
 mod program;
 #[cfg(test)]
+mod promql_tables;
+#[cfg(test)]
+mod promql_tests;
+#[cfg(test)]
 mod rig;
 #[cfg(test)]
 mod run_tests;

@@ -1,6 +1,6 @@
 //! Runs of a folder over an input.
 
-use crate::rig::{ROOM, Wanted, bytes_of, calls, is_front, operate_on, sink, want_of};
+use crate::rig::{ROOM, Wanted, bytes_of, calls, folder, is_front, operate_on, sink, want_of};
 use crate::status::Status;
 use op_base::{List, NoMemory};
 use op_edges::{MemFolder, MemSource};
@@ -95,6 +95,22 @@ fn a_second_tenant_of_the_same_names(rt: HostRuntime) -> Result<(), Fail> {
     let input = source(alloc, LINES_OF_BOTH)?;
     let want = want_of(Status::Done, REPORTS_OF_BOTH, "");
     runs(&rt, alloc, folder_of_both(alloc)?, input, want)?;
+    Ok(())
+}
+
+#[test]
+fn expressions_in_a_run(rt: HostRuntime) -> Result<(), Fail> {
+    let alloc = rt.alloc();
+    let rules = folder(
+        alloc,
+        &[
+            ("1.json", "a", "r", "x"),
+            ("2.json", "a", "r", "sum(x)"),
+            ("3.json", "a", "s", "a +"),
+        ],
+    )?;
+    let want = want_of(Status::Refused, RULES_IN_A_RUN, "");
+    runs(&rt, alloc, rules, source(alloc, "")?, want)?;
     Ok(())
 }
 
@@ -235,3 +251,6 @@ const CLASHING: &str =
 
 const RENAMED: &str =
     "a\t{\"also\":[],\"answer\":\"Admitted\",\"put\":\"Probe/a/p\"}\n-\t{\"answer\":\"Admitted\",\"page\":\"http://u/probe?target=t\"}\na\t{\"alerts\":[],\"failed\":[],\"stored\":[[{\"__name__\":\"up\",\"instance\":\"t\",\"job\":\"probe/a/p\",\"namespace\":\"a\"},1],[{\"__name__\":\"x\",\"exported_exported_exported_job\":\"1\",\"exported_exported_job\":\"3\",\"exported_job\":\"2\",\"instance\":\"t\",\"job\":\"probe/a/p\",\"namespace\":\"a\"},2],[{\"__name__\":\"x\",\"exported_exported_job\":\"1\",\"exported_job\":\"2\",\"instance\":\"t\",\"job\":\"probe/a/p\",\"namespace\":\"a\"},1],[{\"__name__\":\"x\",\"exported_exported_namespace\":\"b\",\"exported_instance\":\"i\",\"exported_namespace\":\"c\",\"instance\":\"t\",\"job\":\"probe/a/p\",\"namespace\":\"a\"},4],[{\"__name__\":\"x\",\"exported_job\":\"2\",\"instance\":\"t\",\"job\":\"probe/a/p\",\"namespace\":\"a\"},3]],\"tick\":0}\n-\t{\"alerts\":[],\"failed\":[],\"stored\":[],\"tick\":0}\n";
+
+const RULES_IN_A_RUN: &str =
+    "a\t{\"also\":[],\"answer\":\"Admitted\",\"put\":\"PrometheusRule/a/r\"}\n-\t{\"bad\":\"NotYet\",\"file\":\"2.json\",\"item\":0}\na\t{\"also\":[],\"answer\":\"Skipped\",\"path\":\"spec.groups[0].rules[0].expr\",\"put\":\"PrometheusRule/a/s\",\"rule\":\"A13\"}\n{\"alertmanager\":null,\"prometheus\":{\"global\":{\"evaluation_interval\":\"30s\",\"external_labels\":{},\"scrape_interval\":\"30s\",\"scrape_timeout\":\"10s\"},\"scrape_configs\":[]},\"rules\":{\"a/r\":{\"groups\":[{\"name\":\"g\",\"rules\":[{\"expr\":\"x{namespace=\\\"a\\\"}\",\"labels\":{\"namespace\":\"a\"},\"record\":\"a:x\"}]}]}}}\n";

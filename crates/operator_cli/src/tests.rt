@@ -1,6 +1,9 @@
 //! Folders that are compiled.
 
-use crate::rig::{ROOM, Wanted, bytes_of, calls, is_front, operate_on, sink, want_of};
+use crate::rig::{
+    ROOM, Wanted, bytes_of, calls, compiles, folder, is_front, manifest, put_rule, recording,
+    run_over, sink, want_of,
+};
 use crate::status::Status;
 use op_base::{List, NoMemory};
 use op_edges::{Folder, MemFolder, MemSink, Sink, SureFolder, SureSink, SureSource};
@@ -14,6 +17,9 @@ const EMPTY: &str =
 const RULE_OF_A: &str =
     "{\"alertmanager\":null,\"prometheus\":{\"global\":{\"evaluation_interval\":\"30s\",\"external_labels\":{},\"scrape_interval\":\"30s\",\"scrape_timeout\":\"10s\"},\"scrape_configs\":[]},\"rules\":{\"a/r\":{\"groups\":[{\"name\":\"g\",\"rules\":[{\"expr\":\"x{namespace=\\\"a\\\"}\",\"labels\":{\"namespace\":\"a\"},\"record\":\"a:x\"}]}]}}}\n";
 
+const SUM_OF_A: &str =
+    "{\"alertmanager\":null,\"prometheus\":{\"global\":{\"evaluation_interval\":\"30s\",\"external_labels\":{},\"scrape_interval\":\"30s\",\"scrape_timeout\":\"10s\"},\"scrape_configs\":[]},\"rules\":{\"a/r\":{\"groups\":[{\"name\":\"g\",\"rules\":[{\"expr\":\"sum(x{namespace=\\\"a\\\"})\",\"labels\":{\"namespace\":\"a\"},\"record\":\"a:sum\"}]}]}}}\n";
+
 const RULES_OF_BOTH: &str =
     "{\"alertmanager\":null,\"prometheus\":{\"global\":{\"evaluation_interval\":\"30s\",\"external_labels\":{},\"scrape_interval\":\"30s\",\"scrape_timeout\":\"10s\"},\"scrape_configs\":[]},\"rules\":{\"a/r\":{\"groups\":[{\"name\":\"g\",\"rules\":[{\"expr\":\"x{namespace=\\\"a\\\"}\",\"labels\":{\"namespace\":\"a\"},\"record\":\"a:x\"}]}]},\"b/r\":{\"groups\":[{\"name\":\"g\",\"rules\":[{\"expr\":\"x{namespace=\\\"b\\\"}\",\"labels\":{\"namespace\":\"b\"},\"record\":\"a:x\"}]}]}}}\n";
 
@@ -21,63 +27,6 @@ const ADMITTED: &str = "a\t{\"also\":[],\"answer\":\"Admitted\",\"put\":\"Promet
 
 const USAGE: &str =
     "usage: operator compile DIR [--part PART] | apply DIR [--each] [--part PART] | run DIR\n";
-
-/// A PrometheusRule manifest with one recording rule.
-fn manifest(alloc: Global, namespace: &str, name: &str, expr: &str) -> Result<List<u8>, NoMemory> {
-    let text = format!(in alloc;
-        "{{\"apiVersion\":\"monitoring.coreos.com/v1\",\"kind\":\"PrometheusRule\",\"metadata\":{{\"name\":\"{name}\",\"namespace\":\"{namespace}\"}},\"spec\":{{\"groups\":[{{\"name\":\"g\",\"rules\":[{{\"expr\":\"{expr}\",\"record\":\"a:x\"}}]}}]}}}}"
-    )?;
-    Ok(List::from_vec(text.as_bytes().to_vec(alloc)?))
-}
-
-/// The folder `d` of manifests, each with its file's name, namespace, name and expression.
-fn folder(alloc: Global, rules: &[(&str, &str, &str, &str)]) -> Result<MemFolder, NoMemory> {
-    let mut folder = MemFolder::new(alloc, List::new(alloc));
-    for (file, namespace, name, expr) in rules {
-        put_rule(alloc, &mut folder, file, namespace, name, expr)?;
-    }
-    Ok(folder)
-}
-
-fn put_rule(
-    alloc: Global,
-    folder: &mut MemFolder,
-    file: &str,
-    namespace: &str,
-    name: &str,
-    expr: &str,
-) -> Result<(), NoMemory> {
-    let bytes = manifest(alloc, namespace, name, expr)?;
-    folder.put("d", file, bytes)
-}
-
-/// Runs `operate` on the words, with an empty input.
-fn run_over<F: Folder, O: Sink, E: Sink>(
-    alloc: Global,
-    words: &[&str],
-    folder: &mut F,
-    out: &mut O,
-    err: &mut E,
-) -> Result<Status, NoMemory> {
-    let mut input = SureSource::new(List::new(alloc));
-    operate_on(alloc, words, folder, &mut input, out, err)
-}
-
-/// Compiles the folder `d` with ample room, and compares what is written.
-fn compiles(
-    rt: &impl Abort,
-    alloc: Global,
-    manifests: &mut MemFolder,
-    want: Wanted,
-) -> Result<(), NoMemory> {
-    let mut out = sink(alloc, ROOM, &[])?;
-    let mut err = sink(alloc, ROOM, &[])?;
-    let status = run_over(alloc, &["compile", "d"], manifests, &mut out, &mut err)?;
-    assert!(rt; status == want.status, "the status");
-    assert!(rt; out.taken() == want.out.as_bytes(), "the configuration");
-    assert!(rt; err.taken() == want.err.as_bytes(), "the reports");
-    Ok(())
-}
 
 #[test]
 fn the_one_rule(rt: HostRuntime) -> Result<(), Fail> {
@@ -89,15 +38,58 @@ fn the_one_rule(rt: HostRuntime) -> Result<(), Fail> {
 }
 
 #[test]
-fn an_expression_that_is_not_read_yet(rt: HostRuntime) -> Result<(), Fail> {
+fn an_aggregate(rt: HostRuntime) -> Result<(), Fail> {
     let alloc = rt.alloc();
-    let mut manifests = folder(alloc, &[("r.json", "a", "r", "sum(x)")])?;
-    let want = want_of(
-        Status::Refused,
-        EMPTY,
-        "-\t{\"bad\":\"NotYet\",\"file\":\"r.json\",\"item\":0}\n",
-    );
+    let mut manifests = MemFolder::new(alloc, List::new(alloc));
+    let rule = recording(alloc, "a", "r", "sum(x)", "a:sum")?;
+    manifests.put("d", "r.json", rule)?;
+    let want = want_of(Status::Done, SUM_OF_A, ADMITTED);
     compiles(&rt, alloc, &mut manifests, want)?;
+    Ok(())
+}
+
+/// Expressions that are skipped, and the rule that each breaks.
+const SKIPPED: [(&str, &str); 9] = [
+    ("a +", "A13"),
+    ("sum", "A13"),
+    ("x[0s]", "A13"),
+    ("1 > 2", "A14"),
+    ("'x'", "A14"),
+    ("x[5m]", "A14"),
+    ("f({})", "A14"),
+    ("{}", "A15"),
+    ("x + count({a=~'.*',b!='c'})", "A15"),
+];
+
+/// The expression is skipped by the rule, and the earlier object of its key is gone.
+fn skips(rt: &impl Abort, alloc: Global, expr: &str, rule: &str) -> Result<(), NoMemory> {
+    let mut manifests = folder(
+        alloc,
+        &[("1.json", "a", "r", "x"), ("2.json", "a", "r", expr)],
+    )?;
+    let mut out = sink(alloc, ROOM, &[])?;
+    let mut err = sink(alloc, ROOM, &[])?;
+    let status = run_over(alloc, &["compile", "d"], &mut manifests, &mut out, &mut err)?;
+    let line = format!(in alloc;
+        "a\t{{\"also\":[],\"answer\":\"Skipped\",\"path\":\"spec.groups[0].rules[0].expr\",\"put\":\"PrometheusRule/a/r\",\"rule\":\"{rule}\"}}\n"
+    )?;
+    assert!(rt; status == Status::Refused, "the status of {expr}");
+    assert!(rt;
+        out.taken() == EMPTY.as_bytes(),
+        "the configuration of {expr}"
+    );
+    assert!(rt;
+        err.taken().ends_with(line.as_bytes()),
+        "the line of {expr}"
+    );
+    Ok(())
+}
+
+#[test]
+fn skipped_expressions(rt: HostRuntime) -> Result<(), Fail> {
+    for (expr, rule) in &SKIPPED {
+        skips(&rt, rt.alloc(), expr, rule)?;
+    }
     Ok(())
 }
 

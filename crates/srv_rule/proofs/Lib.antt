@@ -1,3 +1,3 @@
-mod MatcherLemmas
+pub mod MatcherLemmas
 pub mod RunLemmas
 mod StaleLemmas

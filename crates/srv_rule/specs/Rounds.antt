@@ -13,10 +13,10 @@ use Rattle.cfg_types.specs.declared.config.Rule.{Rule}
 use Rattle.cfg_types.specs.Written.{file_text}
 use Rattle.srv_store.specs.declared.entry.Entry.{Entry}
 use Rattle.srv_store.specs.LabelMaps.{has_labels, labels_in}
-use Rattle.srv_store.specs.Stores.{Store, Vector, HavePatterns, with_all}
+use Rattle.srv_store.specs.Stores.{Store, Vector, with_all}
 use Rattle.srv_rule.specs.declared.states.RuleId.{RuleId}
 use Rattle.srv_rule.specs.declared.view.FailedRule.{FailedRule}
-use Rattle.srv_rule.specs.Evaluated.{vector_of}
+use Rattle.srv_rule.specs.Evaluated.{vector_of, AsksPatterns}
 use Rattle.srv_rule.specs.Recorded.{results_of}
 
 -- rules before one another: by the text of the object, the group, the place in it, and the name
@@ -157,4 +157,4 @@ round_of files ambient force t before store = without_gone t before (after_rules
 -- each matcher of each rule that asks for a pattern has one
 abbrev pub HavePatternsIn : List Placed → Type 0
 HavePatternsIn [] = Unit {0}
-HavePatternsIn (placed ∷ rules) = HavePatterns placed.rule.expr.matchers × HavePatternsIn rules
+HavePatternsIn (placed ∷ rules) = AsksPatterns placed.rule.expr × HavePatternsIn rules

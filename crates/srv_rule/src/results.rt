@@ -1,13 +1,14 @@
 // What a recording rule gives at a moment.
-ghost use Rattle.std.specs.Prelude.{◌≡◌, [], ◌∷◌, not, Ok, true, fold, IfOk, OnOk, option_map};
+ghost use Rattle.std.specs.Prelude.{◌≡◌, [], ◌∷◌, not, Ok, Some, true, fold, IfOk, OnOk, option_map};
 ghost use Rattle.op_base.specs.Labels.{labels_with};
 ghost use Rattle.srv_store.specs.LabelMaps.{has_labels, with_value};
 ghost use Rattle.srv_store.specs.Stores.{HavePatterns, IsTick};
 ghost use Rattle.srv_rule.specs.Evaluated as evaluated;
 ghost use Rattle.srv_rule.specs.Recorded as spec;
 
-use cfg_types::{PlainSelector, Rule};
+use cfg_types::Rule;
 use op_base::{Labels, List, MatchOp, Matcher, Moment, NoMemory, Tags, Text};
+use ql_tree::Expr;
 use srv_store::{LabelMap, Store};
 use std::alloc::Global;
 
@@ -20,7 +21,7 @@ pub(crate) fn results_of(
     rule: &Rule,
     t: Moment,
 ) -> Result<Option<LabelMap<i64>>, NoMemory>
-    requires patterns { HavePatterns rule.now.expr.matchers }
+    requires patterns { evaluated.AsksPatterns rule.now.expr }
     requires moment { IsTick t }
     ensures { IfOk result (λ results. results
         ≡ spec.results_of rule.now.name rule.now.labels [] (evaluated.vector_of [] rule.now.expr store.now t)) }
@@ -29,32 +30,55 @@ pub(crate) fn results_of(
     gather(alloc, rule, elements.as_slice())
 }
 
+// No labels are ambient.
 fn vector_of(
     alloc: Global,
     store: &Store,
-    expr: &PlainSelector,
+    expr: &Expr,
     t: Moment,
 ) -> Result<List<(Labels, i64)>, NoMemory>
-    requires patterns { HavePatterns expr.now.matchers }
+    requires patterns { evaluated.AsksPatterns expr.now }
     requires moment { IsTick t }
     ensures { IfOk result (λ vector. vector ≡ evaluated.vector_of [] expr.now store.now t) }
 {
-    let matchers = matchers_of(alloc, expr)?;
-    store.newest(alloc, &matchers, t)
+    match expr {
+        Expr::Select {
+            name: Some(name),
+            matchers,
+            range: None,
+            offset: None,
+        } => named(alloc, store, name.as_str(), matchers.as_slice(), t),
+        _ => Ok(List::new(alloc)),
+    }
 }
 
-// No labels are ambient, so no matcher is passed over.
-fn matchers_of(alloc: Global, expr: &PlainSelector) -> Result<List<Matcher>, NoMemory>
-    requires patterns { HavePatterns expr.now.matchers }
-    ensures asked { IfOk result (λ matchers. matchers ≡ evaluated.matchers_of [] expr.now) }
-    ensures patterns { IfOk result (λ matchers. HavePatterns matchers) }
+fn named(
+    alloc: Global,
+    store: &Store,
+    name: &str,
+    matchers: &[Matcher],
+    t: Moment,
+) -> Result<List<(Labels, i64)>, NoMemory>
+    requires patterns { HavePatterns matchers.now }
+    requires moment { IsTick t }
+    ensures { IfOk result (λ vector. vector ≡ evaluated.named [] (Some name.now) matchers.now store.now t) }
 {
-    let mut matchers = List::new(alloc);
-    matchers.push(name_matcher(alloc, expr.name.as_str())?)?;
-    for matcher in expr.matchers.as_slice() {
-        matchers.push(matcher.clone()?)?;
+    let asked = matchers_of(alloc, name, matchers)?;
+    store.newest(alloc, &asked, t)
+}
+
+// No matcher is passed over.
+fn matchers_of(alloc: Global, name: &str, matchers: &[Matcher]) -> Result<List<Matcher>, NoMemory>
+    requires patterns { HavePatterns matchers.now }
+    ensures asked { IfOk result (λ asked. asked ≡ evaluated.matchers_of [] name.now matchers.now) }
+    ensures patterns { IfOk result (λ asked. HavePatterns asked) }
+{
+    let mut asked = List::new(alloc);
+    asked.push(name_matcher(alloc, name)?)?;
+    for matcher in matchers {
+        asked.push(matcher.clone()?)?;
     }
-    Ok(matchers)
+    Ok(asked)
 }
 
 fn name_matcher(alloc: Global, name: &str) -> Result<Matcher, NoMemory>

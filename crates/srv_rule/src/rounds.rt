@@ -1,6 +1,7 @@
 ghost use Rattle.std.specs.Prelude.{◌≡◌, [], ◌∷◌, map, unwrap_or, IfOk, OnOk, OnErr};
 ghost use Rattle.srv_store.specs.LabelMaps.{labels_in};
-ghost use Rattle.srv_store.specs.Stores.{HavePatterns, IsTick, AddsPrefix};
+ghost use Rattle.srv_store.specs.Stores.{IsTick, AddsPrefix};
+ghost use Rattle.srv_rule.specs.Evaluated.{AsksPatterns};
 ghost use Rattle.srv_rule.specs.Running.{placed_as, ran, after, succeeded};
 ghost use Rattle.srv_rule.specs.Rounds as spec;
 
@@ -165,7 +166,7 @@ fn run_rule(
     place: &Place<'_>,
     t: Moment,
 ) -> Result<(), NoMemory>
-    requires patterns { HavePatterns place.now.rule.now.expr.matchers }
+    requires patterns { AsksPatterns place.now.rule.now.expr }
     requires moment { IsTick t }
     ensures ok { OnOk result (ran store.new progress.new
         ≡ after t before.now (ran store.old progress.old) (placed_as place.entry.now ∷ [])) }

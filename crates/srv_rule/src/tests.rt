@@ -1,10 +1,11 @@
 ghost use Rattle.std.specs.Prelude.{◌≡◌, [], ◌∷◌, IfOk};
-ghost use Rattle.srv_store.specs.Stores.{HavePatterns};
+ghost use Rattle.srv_rule.specs.Evaluated.{AsksPatterns};
 ghost use Rattle.srv_rule.specs.Rounds.{HavePatternsIn, placed_of};
 
 use crate::{RuleStates, round};
-use cfg_types::{Group, PlainSelector, Rule, RuleFile};
+use cfg_types::{Group, Rule, RuleFile};
 use op_base::{Labels, List, Moment, NoMemory, Tags, Text};
+use ql_tree::Expr;
 use srv_store::{Entry, Store};
 use std::alloc::Global;
 use std::test::Fail;
@@ -19,15 +20,17 @@ fn one<T: Drop>(alloc: Global, item: T) -> Result<List<T>, NoMemory>
 
 // `recorded` over `up`, with the label that is given.
 fn rule(alloc: Global, label: &str) -> Result<Rule, NoMemory>
-    ensures { IfOk result (λ rule. HavePatterns rule.expr.matchers) }
+    ensures { IfOk result (λ rule. AsksPatterns rule.expr) }
 {
     let mut labels = Tags::new(alloc);
     labels.set(label, "t")?;
     Ok(Rule {
         name: Text::from_str(alloc, "recorded")?,
-        expr: PlainSelector {
-            name: Text::from_str(alloc, "up")?,
+        expr: Expr::Select {
+            name: Some(Text::from_str(alloc, "up")?),
             matchers: List::new(alloc),
+            range: None,
+            offset: None,
         },
         labels,
     })

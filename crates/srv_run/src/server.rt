@@ -32,11 +32,15 @@ pub struct Server {
 }
 
 impl Model for Server {
+    ghost use Rattle.std.specs.Coded.{codes};
     ghost use Rattle.std.specs.Prelude.{IfSome};
+    ghost use Rattle.ql_tree.specs.contracts.tree.Expr as expr;
     ghost use Rattle.srv_store.specs.Stores.{IsTick};
     ghost use Rattle.srv_run.specs.Served.{Serving, CanRun, AreKnown};
 
     ghost Value = { Serving };
+
+    ghost coded = { Prim.hlevel (codes, expr.the_row.coded) };
 
     ghost view = { λ server. record {
       config = server.config;

@@ -4,9 +4,10 @@ ghost use Rattle.srv_rule.specs.Rounds.{HavePatternsIn, placed_of};
 ghost use Rattle.srv_run.specs.Served.{CanRun, IsFit};
 
 use crate::{Event, EventFault, Server};
-use cfg_types::{Config, Group, Job, PlainSelector, PromPart, Rule, RuleFile, StaticConfig};
+use cfg_types::{Config, Group, Job, PromPart, Rule, RuleFile, StaticConfig};
 use op_base::{Labels, List, Moment, NoMemory, Span, Tags, Text};
 use op_report::{Report, global_line};
+use ql_tree::Expr;
 use srv_scrape::Sample;
 use std::alloc::Global;
 use std::test::Fail;
@@ -52,9 +53,11 @@ fn files(alloc: Global) -> Result<List<RuleFile>, NoMemory>
 {
     let rule = Rule {
         name: Text::from_str(alloc, "recorded")?,
-        expr: PlainSelector {
-            name: Text::from_str(alloc, "up")?,
+        expr: Expr::Select {
+            name: Some(Text::from_str(alloc, "up")?),
             matchers: List::new(alloc),
+            range: None,
+            offset: None,
         },
         labels: in_namespace(alloc, "b")?,
     };

@@ -4,7 +4,6 @@ use Rattle.std.specs.List.{filter_map, cons_option}
 use Rattle.std.specs.Ordering.{nat_cmp}
 use Rattle.std.specs.Cmp.Lexicographic.{pointwise, bytes_decides, slice_cmp, nat_list_cmp_total}
 use Rattle.std.specs.FinMap.Entries.{is_sorted-put, find-put}
-use Rattle.op_base.specs.declared.kind.Kind.TheVariants.{PrometheusRule, Probe as ProbeKind}
 use Rattle.op_base.specs.declared.moment.Moment.{Moment}
 use Rattle.op_base.specs.Names.{is_namespace}
 use Rattle.op_base.specs.Maps.{Map, value_at, with_entry}
@@ -22,7 +21,7 @@ use Rattle.tenant_world.specs.Events.{Event, manifest, given, long, HasNames, Ha
 use Rattle.op_report.specs.ReadBack.{views_for}
 use Rattle.tenant_world.specs.Isolation.{IsIsolated}
 use Rattle.tenant_world.specs.Owners.{Own, rule, probe, owner, is_own, stripped, own_events}
-use Rattle.tenant_world.specs.Runs.{World, beginning, next, said, run, after_item, tick_served, tick_said, item_report, admitted}
+use Rattle.tenant_world.specs.Runs.{World, beginning, next, said, run, after_item, tick_served, tick_said, item_report, rule_view, probe_view}
 use Rattle.tenant_world.specs.Tenants.{Tenant, with_rule, with_probe, with_tick, rule_has_room, probe_has_room, own_tick_said, own_next, own_said, own_run, own_tick_view}
 use Rattle.tenant_world.proofs.LineLaws.{views_for-append, tick-told}
 use Rattle.tenant_world.proofs.ObjectLaws.{good-with, inner-own, inner-other, tied, not_tied}
@@ -99,7 +98,7 @@ module _ (n : List ℕ) (world : World) (good : GoodWorld world) where
 -- an own object is taken as the own world takes it
 own_rule : (world : World) (file : List ℕ) (r : ThinRule) (taken : Bool)
     → (seen r.namespace (after_item world (Rule r) taken) ≡ with_rule (seen r.namespace world) r taken)
-    × (views_for r.namespace (item_report file (Rule r) taken ∷ []) ≡ cond taken (admitted PrometheusRule r.namespace r.name ∷ []) [])
+    × (views_for r.namespace (item_report file (Rule r) taken ∷ []) ≡ cond taken (rule_view r ∷ []) [])
 own_rule world file r false = (refl, refl)
 own_rule world file r true = (
   λ i. record (seen r.namespace world) {
@@ -111,7 +110,7 @@ own_rule world file r true = (
 
 own_probe : (world : World) (file : List ℕ) (p : ThinProbe) (taken : Bool)
     → (seen p.namespace (after_item world (Probe p) taken) ≡ with_probe (seen p.namespace world) p taken)
-    × (views_for p.namespace (item_report file (Probe p) taken ∷ []) ≡ cond taken (admitted ProbeKind p.namespace p.name ∷ []) [])
+    × (views_for p.namespace (item_report file (Probe p) taken ∷ []) ≡ cond taken (probe_view p ∷ []) [])
 own_probe world file p false = (refl, refl)
 own_probe world file p true = (
   λ i. record (seen p.namespace world) {
@@ -131,7 +130,7 @@ rule-seen n world file r good named =
             good = rule_good n world good r (rule_fits world.objects r) named;
             after = subst (λ m. seen m (after_item world (Rule r) (rule_fits world.objects r)) ≡ with_rule (seen m world) r (rule_has_room (seen m world) r)) (sym same) facts.0
                 ∙ ap (λ b. taken_up n (seen n world) (cond b (Some (rule r)) None)) (sym is);
-            views = subst (λ m. views_for m (item_report file (Rule r) (rule_fits world.objects r) ∷ []) ≡ cond (rule_has_room (seen m world) r) (admitted PrometheusRule r.namespace r.name ∷ []) []) (sym same) facts.1
+            views = subst (λ m. views_for m (item_report file (Rule r) (rule_fits world.objects r) ∷ []) ≡ cond (rule_has_room (seen m world) r) (rule_view r ∷ []) []) (sym same) facts.1
                 ∙ ap (λ b. told n (seen n world) (cond b (Some (rule r)) None)) (sym is);
           }
       | false ↦ λ other.
@@ -153,7 +152,7 @@ probe-seen n world file p good named =
             good = probe_good n world good p (probe_fits world.objects p) named;
             after = subst (λ m. seen m (after_item world (Probe p) (probe_fits world.objects p)) ≡ with_probe (seen m world) p (probe_has_room (seen m world) p)) (sym same) facts.0
                 ∙ ap (λ b. taken_up n (seen n world) (cond b (Some (probe p)) None)) (sym is);
-            views = subst (λ m. views_for m (item_report file (Probe p) (probe_fits world.objects p) ∷ []) ≡ cond (probe_has_room (seen m world) p) (admitted ProbeKind p.namespace p.name ∷ []) []) (sym same) facts.1
+            views = subst (λ m. views_for m (item_report file (Probe p) (probe_fits world.objects p) ∷ []) ≡ cond (probe_has_room (seen m world) p) (probe_view p ∷ []) []) (sym same) facts.1
                 ∙ ap (λ b. told n (seen n world) (cond b (Some (probe p)) None)) (sym is);
           }
       | false ↦ λ other.

@@ -5,6 +5,7 @@ mod MemoryLaws
 mod NameLemmas
 mod ObjectLaws
 mod OrderLaws
+mod RecordingLaws
 mod ResultLaws
 mod RoundLaws
 mod RulesLaws

@@ -9,7 +9,7 @@ use Rattle.srv_scrape.specs.Ticks.{tick_entries}
 use Rattle.srv_rule.specs.Rounds.{Ran, round_of}
 use Rattle.srv_run.specs.Memories.{Memory, Ticked, with_scrapes, ticked}
 use Rattle.srv_run.specs.Shares.{failed_of}
-use Rattle.op_thin.specs.declared.rule.ThinRule.{ThinRule}
+use Rattle.op_thin.specs.declared.recording.Recording.{Recording}
 use Rattle.op_thin.specs.Compiled.{file_of}
 use Rattle.tenant_world.specs.Tenants.{home_label, written_file}
 use Rattle.tenant_world.proofs.RoundLaws.{states_of, ran_of, OwnStates}
@@ -49,7 +49,7 @@ added-of n old new own (added, is) seen =
     ∙ sym (drop-append (of_namespace n old) (of_namespace n added))
     ∙ ap (drop (length (of_namespace n old))) (sym (of-append n old added) ∙ sym (ap (of_namespace n) is) ∙ seen)
 
-module _ (n : List ℕ) (entries : List Entry) (rules : List ThinRule) (memory : Memory) (t : Moment) (homes : HaveHomes rules) (states : OwnStates memory.states) where
+module _ (n : List ℕ) (entries : List Entry) (rules : List Recording) (memory : Memory) (t : Moment) (homes : HaveHomes rules) (states : OwnStates memory.states) where
   ran-seen : ran_of n (round_of (map file_of rules) [] [] t memory.states (with_scrapes entries memory t))
       ≡ round_of (map written_file (filter (is_of n) rules)) (home_label n) (home_label n) t (states_of n memory.states) (with_scrapes (of_namespace n entries) (memory_of n memory) t)
   ran-seen =

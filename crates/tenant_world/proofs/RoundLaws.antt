@@ -18,7 +18,7 @@ use Rattle.srv_rule.specs.declared.states.RuleId.{RuleId}
 use Rattle.srv_rule.specs.declared.view.FailedRule.{FailedRule}
 use Rattle.srv_rule.specs.Rounds.{States, Ran, Placed, id_cmp, id_of, placed_at, last_of, with_state, stale_entries, value_entries, after_results}
 use Rattle.srv_run.specs.Shares.{failed_of}
-use Rattle.op_thin.specs.declared.rule.ThinRule.{ThinRule}
+use Rattle.op_thin.specs.declared.recording.Recording.{Recording}
 use Rattle.op_thin.specs.Compiled.{config_rule, file_of}
 use Rattle.tenant_world.specs.Tenants.{written_rule, written_file}
 use Rattle.tenant_world.proofs.KeyLemmas.{first_equal, second_equal, text_same, where_key-put_kept, where_key-put_dropped}
@@ -56,10 +56,10 @@ id_same x y h =
     }
 
 -- a rule of the configuration, and the rule as it is written
-abbrev pub enforced_placed : ThinRule → Placed
+abbrev pub enforced_placed : Recording → Placed
 enforced_placed r = placed_at (file_of r) r.group 0 (config_rule r)
 
-abbrev pub written_placed : ThinRule → Placed
+abbrev pub written_placed : Recording → Placed
 written_placed r = placed_at (written_file r) r.group 0 (written_rule r)
 
 -- the state is of a rule of the namespace
@@ -163,7 +163,7 @@ module _ (n : List ℕ) where
       filter-append (λ (f : FailedRule). pointwise nat_eq n f.namespace) failed (rule ∷ []) ∙ ap (λ b. failed_of n failed ++ cond b (rule ∷ []) []) other ∙ append-nil (failed_of n failed)
 
 -- an own rule
-module _ (r : ThinRule) (t : Moment) where
+module _ (r : Recording) (t : Moment) where
   abbrev n : List ℕ
   n = r.namespace
 
@@ -185,7 +185,7 @@ module _ (r : ThinRule) (t : Moment) where
   }
 
 -- another's rule
-module _ (n : List ℕ) (r : ThinRule) (t : Moment) (other : pointwise nat_eq n r.namespace ≡ false) where
+module _ (n : List ℕ) (r : Recording) (t : Moment) (other : pointwise nat_eq n r.namespace ≡ false) where
   pub other-results : (ran : Ran) (last : Option (List Texts)) (results : Option Vector) → IfSome results (Own r.namespace) → IfSome last (OwnSets r.namespace) → T (is_sorted id_cmp ran.states)
       → ran_of n (after_results t ran (enforced_placed r) last results) ≡ ran_of n ran
   other-results ran last None own sets h = λ i. record {

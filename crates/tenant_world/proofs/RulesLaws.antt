@@ -12,7 +12,7 @@ use Rattle.srv_rule.specs.declared.states.RuleId.{RuleId}
 use Rattle.srv_rule.specs.Evaluated.{vector_of}
 use Rattle.srv_rule.specs.Recorded.{results_of}
 use Rattle.srv_rule.specs.Rounds.{States, Ran, Placed, id_cmp, id_of, last_of, placed_in, placed_of, stale_entries, value_entries, after_results, after_rule, after_rules, gone, gone_entries, without_gone, round_of}
-use Rattle.op_thin.specs.declared.rule.ThinRule.{ThinRule}
+use Rattle.op_thin.specs.declared.recording.Recording.{Recording}
 use Rattle.op_thin.specs.Compiled.{enforced_expr, file_of, ENFORCED_LABEL}
 use Rattle.tenant_world.specs.Tenants.{home_label, written_rule, written_file}
 use Rattle.tenant_world.proofs.KeyLemmas.{alike}
@@ -21,28 +21,28 @@ use Rattle.tenant_world.proofs.RoundLaws.{id_total, id_same, enforced_placed, wr
 use Rattle.tenant_world.proofs.StoreLaws.{of-append, with_all-of}
 
 -- what a rule of the configuration makes of the store, and what the rule as it is written makes of it
-abbrev given : ThinRule → Store → Moment → Option Vector
+abbrev given : Recording → Store → Moment → Option Vector
 given r store t = results_of r.record_name ((ENFORCED_LABEL, r.namespace) ∷ []) [] (vector_of [] (enforced_expr r) store t)
 
-given-of : (r : ThinRule) (store : Store) (t : Moment)
+given-of : (r : Recording) (store : Store) (t : Moment)
     → given r store t ≡ results_of r.record_name [] (home_label r.namespace) (vector_of (home_label r.namespace) (written_rule r).expr (of_namespace r.namespace store) t)
 given-of r store t =
     gathered-of r.namespace r.record_name [] (vector_of [] (enforced_expr r) store t)
     ∙ ap (results_of r.record_name [] (home_label r.namespace)) (vector-of r store t)
 
-given-own : (r : ThinRule) (store : Store) (t : Moment) → 0 < length r.namespace → IfSome (given r store t) (Own r.namespace)
+given-own : (r : Recording) (store : Store) (t : Moment) → 0 < length r.namespace → IfSome (given r store t) (Own r.namespace)
 given-own r store t some = gathered-own r.namespace r.record_name [] (vector_of [] (enforced_expr r) store t) some tt
 
-abbrev server_rule : Moment → States → Ran → ThinRule → Ran
+abbrev server_rule : Moment → States → Ran → Recording → Ran
 server_rule t before ran r = after_rule [] [] t before ran (enforced_placed r)
 
-abbrev own_rule : List ℕ → Moment → States → Ran → ThinRule → Ran
+abbrev own_rule : List ℕ → Moment → States → Ran → Recording → Ran
 own_rule n t before ran r = after_rule (home_label n) (home_label n) t before ran (written_placed r)
 
 last-of : (n : List ℕ) (states : States) (id : RuleId) → of_home n id ≡ true → last_of (states_of n states) id ≡ last_of states id
 last-of n states id own = find-where_key id_cmp (of_home n) id (alike id_cmp id_same (of_home n) id) states ∙ ap (λ b. cond b (find id_cmp id states) None) own
 
-own-rule : (r : ThinRule) (t : Moment) (before : States) (ran : Ran) → 0 < length r.namespace → OwnStates before → T (is_sorted id_cmp ran.states)
+own-rule : (r : Recording) (t : Moment) (before : States) (ran : Ran) → 0 < length r.namespace → OwnStates before → T (is_sorted id_cmp ran.states)
     → ran_of r.namespace (server_rule t before ran r) ≡ own_rule r.namespace t (states_of r.namespace before) (ran_of r.namespace ran) r
 own-rule r t before ran some states h =
     let id = id_of (enforced_placed r) in
@@ -52,34 +52,34 @@ own-rule r t before ran some states h =
     (results_of r.record_name [] (home_label r.namespace) (vector_of (home_label r.namespace) (written_rule r).expr (of_namespace r.namespace ran.store) t)))
     (sym (last-of r.namespace before id (same_name r.namespace)))
 
-other-rule : (n : List ℕ) (r : ThinRule) (t : Moment) (before : States) (ran : Ran) → pointwise nat_eq n r.namespace ≡ false → 0 < length r.namespace → OwnStates before → T (is_sorted id_cmp ran.states)
+other-rule : (n : List ℕ) (r : Recording) (t : Moment) (before : States) (ran : Ran) → pointwise nat_eq n r.namespace ≡ false → 0 < length r.namespace → OwnStates before → T (is_sorted id_cmp ran.states)
     → ran_of n (server_rule t before ran r) ≡ ran_of n ran
 other-rule n r t before ran other some states h =
     let id = id_of (enforced_placed r) in
     other-results n r t other ran (last_of before id) (given r ran.store t) (given-own r ran.store t some) (own-find before id states) h
 
 -- states stay in order and their sets their own
-sorted-results : (t : Moment) (ran : Ran) (r : ThinRule) (last : Option (List Texts)) (results : Option Vector) → T (is_sorted id_cmp ran.states)
+sorted-results : (t : Moment) (ran : Ran) (r : Recording) (last : Option (List Texts)) (results : Option Vector) → T (is_sorted id_cmp ran.states)
     → T (is_sorted id_cmp (after_results t ran (enforced_placed r) last results).states)
 sorted-results t ran r None None h = h
 sorted-results t ran r (Some sets) None h = is_sorted-put id_cmp id_total (id_of (enforced_placed r)) sets ran.states h
 sorted-results t ran r last (Some results) h = is_sorted-put id_cmp id_total (id_of (enforced_placed r)) (labels_in results) ran.states h
 
-own-after : (t : Moment) (ran : Ran) (r : ThinRule) (last : Option (List Texts)) (results : Option Vector) → IfSome last (OwnSets r.namespace) → IfSome results (Own r.namespace)
+own-after : (t : Moment) (ran : Ran) (r : Recording) (last : Option (List Texts)) (results : Option Vector) → IfSome last (OwnSets r.namespace) → IfSome results (Own r.namespace)
     → OwnStates ran.states → OwnStates (after_results t ran (enforced_placed r) last results).states
 own-after t ran r None None sets own h = h
 own-after t ran r (Some last) None sets own h = own-state ran.states (id_of (enforced_placed r)) last sets h
 own-after t ran r last (Some results) sets own h = own-state ran.states (id_of (enforced_placed r)) (labels_in results) (own-labels r.namespace results own) h
 
-abbrev pub HaveHomes : List ThinRule → Type 0
-HaveHomes rules = AllByRecursion (λ (r : ThinRule). 0 < length r.namespace) rules
+abbrev pub HaveHomes : List Recording → Type 0
+HaveHomes rules = AllByRecursion (λ (r : Recording). 0 < length r.namespace) rules
 
-abbrev pub is_of : List ℕ → ThinRule → Bool
+abbrev pub is_of : List ℕ → Recording → Bool
 is_of n r = pointwise nat_eq n r.namespace
 
 module _ (t : Moment) (before : States) (states : OwnStates before) where
   -- what all rules do is seen as what the own rules do
-  rules-of : (n : List ℕ) (rules : List ThinRule) (ran : Ran) → HaveHomes rules → T (is_sorted id_cmp ran.states)
+  rules-of : (n : List ℕ) (rules : List Recording) (ran : Ran) → HaveHomes rules → T (is_sorted id_cmp ran.states)
       → ran_of n (fold (server_rule t before) ran rules) ≡ fold (own_rule n t (states_of n before)) (ran_of n ran) (filter (is_of n) rules)
   rules-of n [] ran homes h = refl
   rules-of n (r ∷ rules) ran homes h =
@@ -93,12 +93,12 @@ module _ (t : Moment) (before : States) (states : OwnStates before) where
         | false ↦ λ other. rest ∙ ap (λ (x : Ran). fold (own_rule n t (states_of n before)) x (filter (is_of n) rules)) (other-rule n r t before ran other homes.0 states h)
       ] refl
 
-  rules-sorted : (rules : List ThinRule) (ran : Ran) → T (is_sorted id_cmp ran.states) → T (is_sorted id_cmp (fold (server_rule t before) ran rules).states)
+  rules-sorted : (rules : List Recording) (ran : Ran) → T (is_sorted id_cmp ran.states) → T (is_sorted id_cmp (fold (server_rule t before) ran rules).states)
   rules-sorted [] ran h = h
   rules-sorted (r ∷ rules) ran h =
       rules-sorted rules (server_rule t before ran r) (sorted-results t ran r (last_of before (id_of (enforced_placed r))) (given r ran.store t) h)
 
-  rules-own : (rules : List ThinRule) (ran : Ran) → HaveHomes rules → OwnStates ran.states → OwnStates (fold (server_rule t before) ran rules).states
+  rules-own : (rules : List Recording) (ran : Ran) → HaveHomes rules → OwnStates ran.states → OwnStates (fold (server_rule t before) ran rules).states
   rules-own [] ran homes h = h
   rules-own (r ∷ rules) ran homes h =
       let id = id_of (enforced_placed r) in
@@ -106,7 +106,7 @@ module _ (t : Moment) (before : States) (states : OwnStates before) where
       (own-after t ran r (last_of before id) (given r ran.store t) (own-find before id states) (given-own r ran.store t homes.0) h)
 
 -- the rules of all files
-placed-all : (f : ThinRule → RuleFile) (g : ThinRule → Placed) → ((r : ThinRule) → placed_in (f r) ≡ g r ∷ []) → (rules : List ThinRule) → placed_of (map f rules) ≡ map g rules
+placed-all : (f : Recording → RuleFile) (g : Recording → Placed) → ((r : Recording) → placed_in (f r) ≡ g r ∷ []) → (rules : List Recording) → placed_of (map f rules) ≡ map g rules
 placed-all f g one [] = refl
 placed-all f g one (r ∷ rules) = ap (λ l. l ++ placed_of (map f rules)) (one r) ∙ ap (λ l. g r ∷ l) (placed-all f g one rules)
 
@@ -117,13 +117,13 @@ fold-map f g c (x ∷ xs) = fold-map f g (f c (g x)) xs
 abbrev beginning_ran : Store → Ran
 beginning_ran store = record { store = store; states = []; failed = [] }
 
-server-rules : (rules : List ThinRule) (t : Moment) (before : States) (store : Store)
+server-rules : (rules : List Recording) (t : Moment) (before : States) (store : Store)
     → after_rules (map file_of rules) [] [] t before store ≡ fold (server_rule t before) (beginning_ran store) rules
 server-rules rules t before store =
     ap (fold (after_rule [] [] t before) (beginning_ran store)) (placed-all file_of enforced_placed (λ r. refl) rules)
     ∙ fold-map (after_rule [] [] t before) enforced_placed (beginning_ran store) rules
 
-own-rules : (n : List ℕ) (rules : List ThinRule) (t : Moment) (before : States) (store : Store)
+own-rules : (n : List ℕ) (rules : List Recording) (t : Moment) (before : States) (store : Store)
     → after_rules (map written_file rules) (home_label n) (home_label n) t before store ≡ fold (own_rule n t before) (beginning_ran store) rules
 own-rules n rules t before store =
     ap (fold (after_rule (home_label n) (home_label n) t before) (beginning_ran store)) (placed-all written_file written_placed (λ r. refl) rules)
@@ -157,7 +157,7 @@ gone-of n t (s ∷ before) after h =
     ] refl
 
 -- a round of all rules is seen as the round of the own rules
-pub round-of : (n : List ℕ) (rules : List ThinRule) (t : Moment) (before : States) (store : Store) → HaveHomes rules → OwnStates before
+pub round-of : (n : List ℕ) (rules : List Recording) (t : Moment) (before : States) (store : Store) → HaveHomes rules → OwnStates before
     → ran_of n (round_of (map file_of rules) [] [] t before store)
     ≡ round_of (map written_file (filter (is_of n) rules)) (home_label n) (home_label n) t (states_of n before) (of_namespace n store)
 round-of n rules t before store homes states =
@@ -177,7 +177,7 @@ round-of n rules t before store homes states =
     ∙ ap (without_gone t (states_of n before)) (sym (own-rules n (filter (is_of n) rules) t (states_of n before) (of_namespace n store)))
 
 -- what a round leaves is in order, and its namespace's
-pub round-own : (rules : List ThinRule) (t : Moment) (before : States) (store : Store) → HaveHomes rules → OwnStates before
+pub round-own : (rules : List Recording) (t : Moment) (before : States) (store : Store) → HaveHomes rules → OwnStates before
     → OwnStates (round_of (map file_of rules) [] [] t before store).states
 round-own rules t before store homes states =
     subst (λ (ran : Ran). OwnStates ran.states) (sym (server-rules rules t before store)) (rules-own t before states rules (beginning_ran store) homes tt)

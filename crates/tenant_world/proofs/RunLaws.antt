@@ -9,6 +9,7 @@ use Rattle.op_base.specs.declared.moment.Moment.{Moment}
 use Rattle.op_base.specs.Maps.{value_at, values_of}
 use Rattle.op_thin.specs.declared.rule.ThinRule.{ThinRule}
 use Rattle.op_thin.specs.declared.probe.ThinProbe.{ThinProbe}
+use Rattle.op_thin.specs.declared.recording.Recording.{Recording}
 use Rattle.op_thin.specs.Compiled.{config_of, file_of, job_of}
 use Rattle.op_thin.specs.FileOrder.{in_order}
 use Rattle.op_thin.specs.Objects.{inner_at, all_of}
@@ -23,6 +24,7 @@ use Rattle.tenant_world.proofs.MemoryLaws.{memory_of, ticked_of, ticked-of, tick
 use Rattle.tenant_world.proofs.NameLemmas.{name-some, name-slash, name-plain, thin-some, thin-plain}
 use Rattle.tenant_world.proofs.ObjectLaws.{Good, all-at, all-homes}
 use Rattle.tenant_world.proofs.OrderLaws.{ordered, in_order-map, ordered-of, all-ordered}
+use Rattle.tenant_world.proofs.RecordingLaws.{recordings, recordings-of, recordings-have}
 use Rattle.tenant_world.proofs.RoundLaws.{OwnStates}
 use Rattle.tenant_world.proofs.RulesLaws.{HaveHomes, is_of}
 use Rattle.tenant_world.proofs.ScrapeLaws.{IsThin, probes-of}
@@ -62,15 +64,19 @@ seen n world = record {
 
 -- a tick of the configuration is seen as the tick of the own world
 module _ (n : List ℕ) (world : World) (good : GoodWorld world) (t : Moment) where
-  files_are : in_order (map file_of (all_of world.objects.rules)) ≡ map file_of (ordered (all_of world.objects.rules))
-  files_are = in_order-map file_of (λ r. refl) (all_of world.objects.rules)
+  abbrev running : List Recording
+  running = recordings (all_of world.objects.rules)
 
-  own_files : map written_file (filter (is_of n) (ordered (all_of world.objects.rules))) ≡ written_files (inner_at world.objects.rules n)
+  files_are : in_order (map file_of running) ≡ map file_of (ordered running)
+  files_are = in_order-map file_of (λ r. refl) running
+
+  own_files : map written_file (filter (is_of n) (ordered running)) ≡ written_files (inner_at world.objects.rules n)
   own_files =
-      ap (map written_file) (ordered-of n (all_of world.objects.rules)
-      (all-homes rule_home IsAnyRule (λ r. AllByRecursion (λ b. nat_eq b 47 ≡ false) r.namespace) (λ r named fine. name-slash r.namespace named) world.objects.rules good.rules)
-      ∙ ap ordered (all-at rule_home IsAnyRule n world.objects.rules good.rules))
-      ∙ sym (in_order-map written_file (λ r. refl) (values_of (inner_at world.objects.rules n)))
+      ap (map written_file) (ordered-of n running
+      (recordings-have (λ m. AllByRecursion (λ b. nat_eq b 47 ≡ false) m) (all_of world.objects.rules)
+      (all-homes rule_home IsAnyRule (λ r. AllByRecursion (λ b. nat_eq b 47 ≡ false) r.namespace) (λ r named fine. name-slash r.namespace named) world.objects.rules good.rules))
+      ∙ ap ordered (recordings-of n (all_of world.objects.rules) ∙ ap recordings (all-at rule_home IsAnyRule n world.objects.rules good.rules)))
+      ∙ sym (in_order-map written_file (λ r. refl) (recordings (values_of (inner_at world.objects.rules n))))
 
   own_scrapes : of_namespace n (scraped_entries world.served.pages t (map job_of (all_of world.objects.probes))) ≡ own_entries n (seen n world) t
   own_scrapes =
@@ -80,17 +86,18 @@ module _ (n : List ℕ) (world : World) (good : GoodWorld world) (t : Moment) wh
       world.objects.probes good.probes)
       ∙ ap (flat_map (probe_entries n world.served.pages t)) (all-at probe_home HasThinTexts n world.objects.probes good.probes)
 
-  homes : HaveHomes (ordered (all_of world.objects.rules))
-  homes = all-ordered (λ r. 0 < length r.namespace) (all_of world.objects.rules)
-      (all-homes rule_home IsAnyRule (λ r. 0 < length r.namespace) (λ r named fine. name-some r.namespace named) world.objects.rules good.rules)
+  homes : HaveHomes (ordered running)
+  homes = all-ordered (λ r. 0 < length r.namespace) running
+      (recordings-have (λ m. 0 < length m) (all_of world.objects.rules)
+      (all-homes rule_home IsAnyRule (λ r. 0 < length r.namespace) (λ r named fine. name-some r.namespace named) world.objects.rules good.rules))
 
   pub tick-seen : ticked_of n (tick_of (config_of world.objects) world.served t) ≡ own_ticked n (seen n world) t
   tick-seen =
       ap (λ files. ticked_of n (ticked (scraped_entries world.served.pages t (map job_of (all_of world.objects.probes))) files [] [] world.served.memory t)) files_are
-      ∙ ticked-of n (scraped_entries world.served.pages t (map job_of (all_of world.objects.probes))) (ordered (all_of world.objects.rules)) world.served.memory t homes good.states
+      ∙ ticked-of n (scraped_entries world.served.pages t (map job_of (all_of world.objects.probes))) (ordered running) world.served.memory t homes good.states
       ∙ (λ i. ticked (own_scrapes i) (own_files i) (home_label n) (home_label n) (memory_of n world.served.memory) t)
 
   pub tick-own : OwnStates (tick_of (config_of world.objects) world.served t).memory.states
   tick-own =
       subst (λ files. OwnStates (ticked (scraped_entries world.served.pages t (map job_of (all_of world.objects.probes))) files [] [] world.served.memory t).memory.states) (sym files_are)
-      (ticked-own n (scraped_entries world.served.pages t (map job_of (all_of world.objects.probes))) (ordered (all_of world.objects.rules)) world.served.memory t homes good.states)
+      (ticked-own n (scraped_entries world.served.pages t (map job_of (all_of world.objects.probes))) (ordered running) world.served.memory t homes good.states)

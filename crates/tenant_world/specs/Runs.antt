@@ -13,7 +13,10 @@ use Rattle.op_report.specs.declared.view.View.{View}
 use Rattle.op_report.specs.declared.view.View.TheVariants as view
 use Rattle.op_thin.specs.declared.item.Item.{Item}
 use Rattle.op_thin.specs.declared.item.Item.TheVariants.{Broken, NotYet, Rule, Probe}
+use Rattle.op_thin.specs.declared.rule.ThinRule.{ThinRule}
+use Rattle.op_thin.specs.declared.probe.ThinProbe.{ThinProbe}
 use Rattle.op_thin.specs.Compiled.{config_of}
+use Rattle.op_thin.specs.Judged.{EXPR_PATH, skip_rule}
 use Rattle.op_thin.specs.Objects.{Present, nothing, is_taken, with_item}
 use Rattle.srv_run.specs.declared.event.Event.TheVariants as server
 use Rattle.srv_run.specs.Served.{Served, new_served, late, with_known, served_after, reports_of}
@@ -32,14 +35,24 @@ beginning = record { objects = nothing; served = new_served }
 abbrev pub to_all : View → Report
 to_all seen = record { to = None; view = seen }
 
--- an object was taken
-abbrev pub admitted : Kind → List ℕ → List ℕ → View
-admitted kind namespace name =
-    view.Own false (key_text (record { kind = kind; namespace = namespace; name = name })) (codes "Admitted") None None []
+-- an object was taken; the rule of admission that skips it, if one does
+abbrev pub answered : List ℕ → Option (List ℕ) → View
+answered key None = view.Own false key (codes "Admitted") None None []
+answered key (Some broken) = view.Own false key (codes "Skipped") (Some broken) (Some EXPR_PATH) []
 
--- to its namespace: the object was taken
-abbrev pub taken_report : Kind → List ℕ → List ℕ → Report
-taken_report kind namespace name = record { to = Some namespace; view = admitted kind namespace name }
+abbrev pub key_of : Kind → List ℕ → List ℕ → List ℕ
+key_of kind namespace name = key_text (record { kind = kind; namespace = namespace; name = name })
+
+-- what is said of a rule and of a probe
+abbrev pub rule_view : ThinRule → View
+rule_view rule = answered (key_of PrometheusRule rule.namespace rule.name) (skip_rule rule.judged)
+
+abbrev pub probe_view : ThinProbe → View
+probe_view probe = answered (key_of ProbeKind probe.namespace probe.name) None
+
+-- to its namespace
+abbrev pub to_owner : List ℕ → View → Report
+to_owner namespace seen = record { to = Some namespace; view = seen }
 
 -- to everyone: the form isn't built yet
 abbrev pub not_yet : List ℕ → Report
@@ -50,9 +63,9 @@ abbrev pub item_report : List ℕ → Item → Bool → Report
 item_report file Broken taken = to_all (view.BadFile (codes "S1") file 0 [])
 item_report file NotYet taken = not_yet file
 item_report file (Rule rule) taken =
-    if taken then taken_report PrometheusRule rule.namespace rule.name else not_yet file
+    if taken then to_owner rule.namespace (rule_view rule) else not_yet file
 item_report file (Probe probe) taken =
-    if taken then taken_report ProbeKind probe.namespace probe.name else not_yet file
+    if taken then to_owner probe.namespace (probe_view probe) else not_yet file
 
 -- the namespace of an item's object is known
 abbrev pub known_after : Served → Item → Served

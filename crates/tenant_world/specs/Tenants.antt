@@ -2,8 +2,7 @@
 -- matcher is added and no configuration is compiled: the label `namespace` is ambient, and forced over all
 -- samples and results.
 use Rattle.std.specs.Prelude.{ℕ, ◌+◌, List, [], ◌∷◌, ◌++◌, Bool, true, false, Option, Some, None, length, is_some, map, if◌then◌else◌}
-use Rattle.std.specs.List.{flat_map}
-use Rattle.op_base.specs.declared.kind.Kind.TheVariants.{PrometheusRule, Probe as ProbeKind}
+use Rattle.std.specs.List.{flat_map, filter_map}
 use Rattle.op_base.specs.declared.moment.Moment.{Moment}
 use Rattle.op_base.specs.Maps.{Map, value_at, values_of, with_entry}
 use Rattle.op_base.specs.Labels.{Texts}
@@ -12,6 +11,8 @@ use Rattle.cfg_types.specs.declared.config.Rule.{Rule as WrittenRule}
 use Rattle.op_report.specs.declared.view.View.{View}
 use Rattle.op_thin.specs.declared.rule.ThinRule.{ThinRule}
 use Rattle.op_thin.specs.declared.probe.ThinProbe.{ThinProbe}
+use Rattle.op_thin.specs.declared.recording.Recording.{Recording}
+use Rattle.op_thin.specs.Compiled.{recording_of}
 use Rattle.op_thin.specs.FileOrder.{in_order}
 use Rattle.op_thin.specs.Objects.{fits}
 use Rattle.srv_store.specs.declared.entry.Entry.{Entry}
@@ -24,7 +25,7 @@ use Rattle.srv_run.specs.Served.{late}
 use Rattle.srv_run.specs.Shares.{tick_view}
 use Rattle.tenant_world.specs.Owners.{Own, rule, probe, page, tick}
 use Rattle.tenant_world.specs.ProbeTargets.{probe_target, probe_url}
-use Rattle.tenant_world.specs.Runs.{admitted}
+use Rattle.tenant_world.specs.Runs.{rule_view, probe_view}
 
 -- its rules and its probes by their names, the pages, what ticks left, the last tick, and whether it is known
 pub record Tenant : Type 0 where
@@ -44,19 +45,19 @@ abbrev pub home_label : List ℕ → Texts
 home_label n = (HOME, n) ∷ []
 
 -- a rule as it is written
-abbrev pub written_rule : ThinRule → WrittenRule
-written_rule r = record { name = r.record_name; expr = record { name = r.expr; matchers = [] }; labels = [] }
+abbrev pub written_rule : Recording → WrittenRule
+written_rule r = record { name = r.record_name; expr = r.tree; labels = [] }
 
-abbrev pub written_file : ThinRule → RuleFile
+abbrev pub written_file : Recording → RuleFile
 written_file r = record {
   namespace = r.namespace;
   name = r.name;
   groups = record { name = r.group; rules = written_rule r ∷ [] } ∷ [];
 }
 
--- the tenant's rules, in the order of their objects' texts
+-- the tenant's rules that aren't skipped, in the order of their objects' texts
 abbrev pub written_files : Map ThinRule → List RuleFile
-written_files rules = in_order (map written_file (values_of rules))
+written_files rules = in_order (map written_file (filter_map recording_of (values_of rules)))
 
 -- samples are renamed where they clash, no step is run, and the own label is put over all
 abbrev pub plain_manner : List ℕ → Manner
@@ -120,8 +121,8 @@ own_tick_said n tenant t None = if tenant.known then own_tick_view (own_ticked n
 
 -- what is said of such an event
 abbrev pub own_said : List ℕ → Tenant → Own → List View
-own_said n tenant (rule r) = if rule_has_room tenant r then admitted PrometheusRule r.namespace r.name ∷ [] else []
-own_said n tenant (probe p) = if probe_has_room tenant p then admitted ProbeKind p.namespace p.name ∷ [] else []
+own_said n tenant (rule r) = if rule_has_room tenant r then rule_view r ∷ [] else []
+own_said n tenant (probe p) = if probe_has_room tenant p then probe_view p ∷ [] else []
 own_said n tenant (page url samples) = []
 own_said n tenant (tick t) = own_tick_said n tenant t (late tenant.last t)
 

@@ -1,5 +1,9 @@
-use Rattle.std.proofs.Common.{rules, sym, subst}
+use Rattle.std.proofs.Common.{List, rules, ap, sym, subst}
+use Rattle.std.specs.List.{AllByRecursion}
 use Rattle.cfg_types.specs.Written.{HasSpans}
+use Rattle.op_thin.specs.declared.rule.ThinRule.{ThinRule}
+use Rattle.op_thin.specs.declared.probe.ThinProbe.{ThinProbe}
+use Rattle.op_thin.specs.Judged.{IsTyped}
 use Rattle.op_thin.specs.CompiledPatterns.{JobsHavePatterns, RulesHavePatterns}
 use Rattle.op_thin.proofs.CompiledLemmas.{config_spans, jobs_patterns, rules_patterns}
 use Rattle.op_thin.proofs.compiled.compile.Goals as goal
@@ -14,4 +18,8 @@ pub returns-clause-jobs : goal.returns-clause-jobs
 returns-clause-jobs c = subst JobsHavePatterns (sym (returns-clause-config c)) (jobs_patterns c.args.objects)
 
 pub returns-clause-rules : goal.returns-clause-rules
-returns-clause-rules c = subst RulesHavePatterns (sym (returns-clause-config c)) (rules_patterns c.args.objects)
+returns-clause-rules c =
+    subst RulesHavePatterns (sym (returns-clause-config c))
+    (rules_patterns c.args.objects
+    (subst (λ (rules : List ThinRule). AllByRecursion (λ rule. IsTyped rule.judged) rules)
+    (ap (λ (all : List ThinRule × List ThinProbe). all.0) c.in_ok-rules.ensures.all) c.in_ok-rules.ensures.judged))

@@ -7,5 +7,5 @@ use Rattle.srv_rule.proofs.results.matchers_of.Goals as goal
 
 pub returns-clause-asked : goal.returns-clause-asked
 returns-clause-asked c =
-    let whole : c.loop-matcher.matchers ≡ name_matcher c.args.expr.now.name ∷ c.args.expr.now.matchers = grind (arith, common_steps) in
-    all_asked c.args.expr.now _ whole
+    let whole : c.loop-matcher.asked ≡ name_matcher c.args.name.now ∷ c.args.matchers.now = grind (arith, common_steps) in
+    all_asked c.args.name.now c.args.matchers.now _ whole

@@ -5,4 +5,4 @@ use Rattle.srv_rule.proofs.results.matchers_of.Given as goal
 
 abbrev pub invariant-loop-matcher : goal.invariant-loop-matcher
 invariant-loop-matcher l =
-    l.matchers ≡ spec.name_matcher l.expr.name ∷ take l.matcher-index l.expr.matchers
+    l.asked ≡ spec.name_matcher l.name ∷ take l.matcher-index l.matchers
