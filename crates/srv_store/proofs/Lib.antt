@@ -1,2 +1,4 @@
 pub mod GrowthLemmas
 pub mod MapLemmas
+mod MemberLemmas
+pub mod OrderLemmas

@@ -1,20 +1,19 @@
 -- Stores of samples: lists of entries, and their filters. After Prometheus on staleness.
-use Rattle.std.specs.Prelude.{◌≡◌, ℕ, ℤ, pos, List, [], ◌∷◌, ◌++◌, Bool, true, ◌&&◌, Option, Some, None, filter, fold, int_le, int_lt, ◌-ℤ◌, ◌≤ℤ◌, ◌^◌, if◌then◌else◌, bytes_eq, codes}
+use Rattle.std.specs.Prelude.{◌≡◌, ℕ, ℤ, pos, List, [], ◌∷◌, ◌++◌, Bool, true, ◌&&◌, Option, Some, None, filter, fold, is_some, map, int_le, int_lt, ◌≤ℤ◌, ◌^◌, if◌then◌else◌, bytes_eq, codes}
 use Rattle.std.specs.Cmp.Lexicographic.{pointwise}
+use Rattle.std.specs.FinMap as finite
 use Rattle.std.specs.List.{list_all, list_any, flat_map}
+use Rattle.std.specs.declared.cmp.Ordering.{Ordering}
+use Rattle.std.specs.Ordering.{int_cmp, on, then_cmp}
 use Rattle.op_base.specs.declared.matcher.Matcher.{Matcher}
 use Rattle.op_base.specs.declared.moment.Moment.{Moment}
-use Rattle.op_base.specs.Labels.{Texts, entry_eq}
-use Rattle.op_base.specs.Matchers.{HasPattern, holds_on, label_value}
+use Rattle.op_base.specs.Labels.{Texts, entry_eq, labels_cmp}
+use Rattle.op_base.specs.Matchers.{holds_on, label_value}
 use Rattle.srv_store.specs.declared.entry.Entry.{Entry}
-use Rattle.srv_store.specs.LabelMaps.{LabelMap, value_of, with_value}
+use Rattle.srv_store.specs.LabelMaps.{LabelMap, value_of, with_value, with_member}
 
 abbrev pub Store : Type 0
 Store = List Entry
-
--- how long an entry counts as the newest one, in milliseconds
-abbrev pub LOOKBACK : ℕ
-LOOKBACK = 300000
 
 -- equal label sets
 abbrev pub same_labels : Texts → Texts → Bool
@@ -58,11 +57,6 @@ AddsPrefix old new all = Grows old new × Grows new all
 abbrev pub all_hold : List Matcher → Texts → Bool
 all_hold matchers labels = list_all (λ matcher. holds_on matcher labels) matchers
 
--- each matcher with `=~` or `!~` has a pattern
-abbrev pub HavePatterns : List Matcher → Type 0
-HavePatterns [] = Unit {0}
-HavePatterns (matcher ∷ matchers) = HasPattern matcher.op matcher.value × HavePatterns matchers
-
 -- a moment at which a store is asked: from 0 to 2^53
 abbrev pub IsTick : Moment → Type 0
 IsTick t = (pos 0 ≤ℤ t.0) × (t.0 ≤ℤ pos (2 ^ 53))
@@ -90,23 +84,70 @@ with_newer found entry =
 abbrev pub latest : List Entry → LabelMap Entry
 latest entries = fold with_newer [] entries
 
--- an element where the entry has a value; a stale one has none
-abbrev pub element_of : Option ℤ → Texts → List (Texts × ℤ)
-element_of None labels = []
-element_of (Some value) labels = (labels, value) ∷ []
-
--- the element of a label set and its entry
-abbrev pub element_in : Texts × Entry → List (Texts × ℤ)
-element_in found = element_of found.1.value found.0
+-- an entry with a value; a stale one has none
+abbrev pub has_value : Entry → Bool
+has_value entry = is_some entry.value
 
 -- a vector: label sets with values, in label order
 abbrev pub Vector : Type 0
 Vector = LabelMap ℤ
 
--- of each label set the newest entry of the lookback before a moment, where that isn't stale
-abbrev pub newest : Store → List Matcher → Moment → Vector
-newest store matchers t =
-    flat_map element_in (latest (window store matchers (t.0 -ℤ pos LOOKBACK) t.0))
+-- an entry, where it isn't stale
+abbrev pub unless_stale : Entry → List Entry
+unless_stale entry = if has_value entry then entry ∷ [] else []
+
+-- the same of the entry that was found for a label set
+abbrev pub found_entry : Texts × Entry → List Entry
+found_entry found = unless_stale found.1
+
+-- of each label set the newest entry of a window, where that isn't stale, in label order
+abbrev pub newest : Store → List Matcher → ℤ → ℤ → List Entry
+newest store matchers from to = flat_map found_entry (latest (window store matchers from to))
+
+-- entries in the order of their keys with pairs put to them, each over any of the same key
+abbrev pub put_all : {K X : Type 0} → (K → K → Ordering) → List (K × X) → List (K × X) → List (K × X)
+put_all R entries pairs = fold (λ entries pair. finite.put R pair.0 pair.1 entries) entries pairs
+
+-- pairs in the order of their keys, of two with the same key the later one's value
+abbrev pub in_order : {K X : Type 0} → (K → K → Ordering) → List (K × X) → List (K × X)
+in_order R pairs = put_all R [] pairs
+
+-- where an entry stands: at its labels, and there at its moment
+abbrev pub Place : Type 0
+Place = Texts × Moment
+
+abbrev pub place_cmp : Place → Place → Ordering
+place_cmp = then_cmp (on (λ (place : Place). place.0) labels_cmp) (on (λ (place : Place). place.1.0) int_cmp)
+
+abbrev pub at_place : Entry → Place × Entry
+at_place entry = ((entry.labels, entry.at), entry)
+
+abbrev pub entry_at : Place × Entry → Entry
+entry_at placed = placed.1
+
+-- entries by labels and then by moments
+abbrev pub ordered : List Entry → List Entry
+ordered entries = map entry_at (in_order place_cmp (map at_place entries))
+
+-- the entries of a window, by labels and then by moments
+abbrev pub selected : Store → List Matcher → ℤ → ℤ → List Entry
+selected store matchers from to = ordered (window store matchers from to)
+
+-- a sample's moment and value
+abbrev pub Sample : Type 0
+Sample = Moment × ℤ
+
+abbrev pub sample_of : Option ℤ → Moment → List Sample
+sample_of None at = []
+sample_of (Some value) at = (at, value) ∷ []
+
+-- one sample more of a label set, where the entry isn't stale
+abbrev pub with_sample : LabelMap (List Sample) → Entry → LabelMap (List Sample)
+with_sample series entry = fold (λ series sample. with_member series entry.labels sample) series (sample_of entry.value entry.at)
+
+-- of each label set in a window its samples in the order of their moments, without stale entries
+abbrev pub ranged : Store → List Matcher → ℤ → ℤ → LabelMap (List Sample)
+ranged store matchers from to = fold with_sample [] (selected store matchers from to)
 
 -- the label that names the namespace that an entry belongs to
 abbrev pub HOME : List ℕ

@@ -6,10 +6,12 @@
 
 mod entry;
 mod map;
+mod order;
 mod store;
 #[cfg(test)]
 mod tests;
 
 pub use entry::Entry;
 pub use map::LabelMap;
+pub use order::in_order;
 pub use store::Store;

@@ -72,3 +72,20 @@ impl<V: Drop> LabelMap<V> {
         Ok(all)
     }
 }
+
+impl<X: Drop> LabelMap<List<X>> {
+    /// Puts one more thing at the label set, behind those that stand there.
+    pub fn add(&mut self, alloc: Global, labels: Labels, member: X) -> Result<(), NoMemory>
+        ensures ok { OnOk result (self.new ≡ spec.with_member self.old labels member) }
+        ensures err { OnErr result (self.new ≡ self.old) }
+    {
+        match self.entries.get_mut(&labels) {
+            Some(members) => members.push(member),
+            None => {
+                let mut members = List::new(alloc);
+                members.push(member)?;
+                self.insert(labels, members)
+            }
+        }
+    }
+}

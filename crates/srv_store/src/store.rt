@@ -1,4 +1,4 @@
-ghost use Rattle.std.specs.Prelude.{◌≡◌, [], ◌∷◌, ◌++◌, not, length, fold, pos, ◌-ℤ◌, IfOk, OnOk, OnErr};
+ghost use Rattle.std.specs.Prelude.{◌≡◌, [], ◌∷◌, ◌++◌, ◌&&◌, not, length, fold, map, IfOk, OnOk, OnErr};
 ghost use Rattle.std.specs.List.{flat_map};
 ghost use Rattle.std.specs.Option.{option_copied};
 ghost use Rattle.op_base.specs.Matchers.{holds_on};
@@ -6,16 +6,16 @@ ghost use Rattle.srv_store.specs.Stores as spec;
 
 use crate::entry::Entry;
 use crate::map::LabelMap;
-use op_base::{Labels, List, MatchFault, Matcher, Moment, NoMemory};
+use crate::order::in_order;
+use op_base::{Labels, List, MatchFault, MatchOp, Matcher, Moment, NoMemory};
 use std::alloc::Global;
 use std::marker::Model;
 
-/// How long an entry counts as the newest one, in milliseconds.
-const LOOKBACK: i64 = 300_000;
-
-/// The samples that were stored, in the order in which they came. Contracts see the list.
+/// The samples that were stored, in the order in which they came. Contracts see the list. It keeps its
+/// allocator.
 #[derive(Debug, Drop)]
 pub struct Store {
+    alloc: Global,
     entries: List<Entry>,
 }
 
@@ -33,6 +33,7 @@ impl Store {
         ensures { result ≡ [] }
     {
         Store {
+            alloc,
             entries: List::new(alloc),
         }
     }
@@ -76,35 +77,71 @@ impl Store {
         Ok(())
     }
 
-    /// Of each label set on which all matchers hold the newest value of the last five minutes, in
+    /// The entries on whose labels all matchers hold, with moments from one to another, both included,
+    /// by labels and then by moments.
+    pub fn select(
+        &self,
+        matchers: &List<Matcher>,
+        from: Moment,
+        to: Moment,
+    ) -> Result<List<Entry>, NoMemory>
+        ensures { IfOk result (λ entries. entries ≡ spec.selected self.now matchers.now from.0 to.0) }
+    {
+        self.selected(matchers, &i128::from(from.0), &i128::from(to.0))
+    }
+
+    /// Of each label set on which all matchers hold the newest entry from one moment to another, in
     /// label order. A label set whose newest entry is stale has none.
     pub fn newest(
         &self,
-        alloc: Global,
         matchers: &List<Matcher>,
-        t: Moment,
-    ) -> Result<List<(Labels, i64)>, NoMemory>
-        requires patterns { spec.HavePatterns matchers.now }
-        requires moment { spec.IsTick t }
-        ensures { IfOk result (λ vector. vector ≡ spec.newest self.now matchers.now t) }
+        from: &i128,
+        to: &i128,
+    ) -> Result<List<Entry>, NoMemory>
+        ensures { IfOk result (λ entries. entries ≡ spec.newest self.now matchers.now from.now to.now) }
     {
-        let from = oldest(t);
         let found = latest(
-            alloc,
+            self.alloc,
             self.entries.as_slice(),
             matchers.as_slice(),
             from,
-            t.0,
+            to,
         )?;
-        elements(alloc, found)
+        found_entries(self.alloc, found)
     }
-}
 
-fn oldest(t: Moment) -> i64
-    requires { spec.IsTick t }
-    ensures { result ≡ t.0 -ℤ pos spec.LOOKBACK }
-{
-    t.0 - LOOKBACK
+    /// Of each label set on which all matchers hold the samples from one moment to another in the order
+    /// of their moments, in label order. Stale entries are none, and a label set without a sample isn't
+    /// there.
+    pub fn ranged(
+        &self,
+        matchers: &List<Matcher>,
+        from: &i128,
+        to: &i128,
+    ) -> Result<List<(Labels, List<(Moment, i64)>)>, NoMemory>
+        ensures { IfOk result (λ series. series ≡ spec.ranged self.now matchers.now from.now to.now) }
+    {
+        let entries = self.selected(matchers, from, to)?;
+        series_of(self.alloc, entries)?.into_entries(self.alloc)
+    }
+
+    fn selected(
+        &self,
+        matchers: &List<Matcher>,
+        from: &i128,
+        to: &i128,
+    ) -> Result<List<Entry>, NoMemory>
+        ensures { IfOk result (λ entries. entries ≡ spec.selected self.now matchers.now from.now to.now) }
+    {
+        let found = window(
+            self.alloc,
+            self.entries.as_slice(),
+            matchers.as_slice(),
+            from,
+            to,
+        )?;
+        ordered(self.alloc, found)
+    }
 }
 
 // The newest entry of each label set in the window.
@@ -112,10 +149,10 @@ fn latest(
     alloc: Global,
     entries: &[Entry],
     matchers: &[Matcher],
-    from: i64,
-    to: i64,
+    from: &i128,
+    to: &i128,
 ) -> Result<LabelMap<Entry>, NoMemory>
-    ensures { IfOk result (λ found. found ≡ spec.latest (spec.window entries.now matchers.now from to)) }
+    ensures { IfOk result (λ found. found ≡ spec.latest (spec.window entries.now matchers.now from.now to.now)) }
 {
     let mut found = LabelMap::new(alloc);
     for entry in entries {
@@ -148,24 +185,36 @@ fn put_newer(
     found: &mut LabelMap<Entry>,
     entry: &Entry,
     matchers: &[Matcher],
-    from: i64,
-    to: i64,
+    from: &i128,
+    to: &i128,
 ) -> Result<(), NoMemory>
-    ensures { OnOk result (found.new ≡ fold spec.with_newer found.old (spec.window (entry.now ∷ []) matchers.now from to)) }
+    ensures { OnOk result (found.new ≡ fold spec.with_newer found.old (spec.window (entry.now ∷ []) matchers.now from.now to.now)) }
 {
-    if is_within(entry.at, from, to)
-        && all_hold(alloc, matchers, &entry.labels)?
-        && is_newer(found.get(&entry.labels), entry)
-    {
+    if is_wanted(alloc, entry, matchers, from, to)? && is_newer(found.get(&entry.labels), entry) {
         found.insert(entry.labels.copy()?, entry.copy()?)?;
     }
     Ok(())
 }
 
-fn is_within(at: Moment, from: i64, to: i64) -> bool
-    ensures { result ≡ spec.is_within from to at }
+// The entry is in the window.
+fn is_wanted(
+    alloc: Global,
+    entry: &Entry,
+    matchers: &[Matcher],
+    from: &i128,
+    to: &i128,
+) -> Result<bool, NoMemory>
+    ensures { IfOk result (λ wanted. wanted
+        ≡ (spec.is_within from.now to.now entry.now.at && spec.all_hold matchers.now entry.now.labels)) }
 {
-    from <= at.0 && at.0 <= to
+    Ok(is_within(entry.at, from, to) && all_hold(alloc, matchers, &entry.labels)?)
+}
+
+fn is_within(at: Moment, from: &i128, to: &i128) -> bool
+    ensures { result ≡ spec.is_within from.now to.now at }
+{
+    let at = i128::from(at.0);
+    *from <= at && at <= *to
 }
 
 fn all_hold(alloc: Global, matchers: &[Matcher], labels: &Labels) -> Result<bool, NoMemory>
@@ -179,13 +228,13 @@ fn all_hold(alloc: Global, matchers: &[Matcher], labels: &Labels) -> Result<bool
     Ok(true)
 }
 
-// No caller gives a matcher whose value is no pattern.
+// A text that is no pattern matches no value.
 fn holds(alloc: Global, matcher: &Matcher, labels: &Labels) -> Result<bool, NoMemory>
     ensures { IfOk result (λ holds. holds ≡ holds_on matcher.now labels.now) }
 {
     match matcher.holds(alloc, labels) {
         Ok(holds) => Ok(holds),
-        Err(MatchFault::BadPattern) => Err(NoMemory),
+        Err(MatchFault::BadPattern) => Ok(matcher.op == MatchOp::Nr),
         Err(MatchFault::NoMemory) => Err(NoMemory),
     }
 }
@@ -199,25 +248,112 @@ fn is_newer(found: Option<&Entry>, entry: &Entry) -> bool
     }
 }
 
-fn elements(alloc: Global, found: LabelMap<Entry>) -> Result<List<(Labels, i64)>, NoMemory>
-    ensures { IfOk result (λ elements. elements ≡ flat_map spec.element_in found) }
+fn found_entries(alloc: Global, found: LabelMap<Entry>) -> Result<List<Entry>, NoMemory>
+    ensures { IfOk result (λ entries. entries ≡ flat_map spec.found_entry found) }
 {
-    let mut elements = List::new(alloc);
-    for (labels, entry) in found.into_entries(alloc)?.into_vec() {
-        push_element(&mut elements, labels, entry.value)?;
+    let mut entries = List::new(alloc);
+    for (_labels, entry) in found.into_entries(alloc)?.into_vec() {
+        push_found(&mut entries, entry)?;
     }
-    Ok(elements)
+    Ok(entries)
 }
 
-fn push_element(
-    elements: &mut List<(Labels, i64)>,
-    labels: Labels,
-    value: Option<i64>,
-) -> Result<(), NoMemory>
-    ensures { OnOk result (elements.new ≡ elements.old ++ spec.element_of value labels) }
+fn push_found(entries: &mut List<Entry>, entry: Entry) -> Result<(), NoMemory>
+    ensures { OnOk result (entries.new ≡ entries.old ++ spec.unless_stale entry) }
 {
+    if entry.value.is_some() {
+        entries.push(entry)?;
+    }
+    Ok(())
+}
+
+// The entries in the window, in the store's order.
+fn window(
+    alloc: Global,
+    entries: &[Entry],
+    matchers: &[Matcher],
+    from: &i128,
+    to: &i128,
+) -> Result<List<Entry>, NoMemory>
+    ensures { IfOk result (λ found. found ≡ spec.window entries.now matchers.now from.now to.now) }
+{
+    let mut found = List::new(alloc);
+    for entry in entries {
+        push_within(alloc, &mut found, entry, matchers, from, to)?;
+    }
+    Ok(found)
+}
+
+fn push_within(
+    alloc: Global,
+    found: &mut List<Entry>,
+    entry: &Entry,
+    matchers: &[Matcher],
+    from: &i128,
+    to: &i128,
+) -> Result<(), NoMemory>
+    ensures { OnOk result (found.new ≡ found.old ++ spec.window (entry.now ∷ []) matchers.now from.now to.now) }
+{
+    if is_wanted(alloc, entry, matchers, from, to)? {
+        found.push(entry.copy()?)?;
+    }
+    Ok(())
+}
+
+fn ordered(alloc: Global, entries: List<Entry>) -> Result<List<Entry>, NoMemory>
+    ensures { IfOk result (λ sorted. sorted ≡ spec.ordered entries) }
+{
+    let sorted = in_order(alloc, at_places(alloc, entries)?)?;
+    entries_of(alloc, sorted)
+}
+
+fn at_places(
+    alloc: Global,
+    entries: List<Entry>,
+) -> Result<List<((Labels, Moment), Entry)>, NoMemory>
+    ensures { IfOk result (λ placed. placed ≡ map spec.at_place entries) }
+{
+    let mut placed = List::new(alloc);
+    for entry in entries.into_vec() {
+        placed.push(((entry.labels.copy()?, entry.at), entry))?;
+    }
+    Ok(placed)
+}
+
+fn entries_of(
+    alloc: Global,
+    placed: List<((Labels, Moment), Entry)>,
+) -> Result<List<Entry>, NoMemory>
+    ensures { IfOk result (λ entries. entries ≡ map spec.entry_at placed) }
+{
+    let mut entries = List::new(alloc);
+    for (_place, entry) in placed.into_vec() {
+        entries.push(entry)?;
+    }
+    Ok(entries)
+}
+
+// The samples of entries that stand by labels and moments.
+fn series_of(alloc: Global, entries: List<Entry>) -> Result<LabelMap<List<(Moment, i64)>>, NoMemory>
+    ensures { IfOk result (λ series. series ≡ fold spec.with_sample [] entries) }
+{
+    let mut series = LabelMap::new(alloc);
+    for entry in entries.into_vec() {
+        add_sample(alloc, &mut series, entry)?;
+    }
+    Ok(series)
+}
+
+fn add_sample(
+    alloc: Global,
+    series: &mut LabelMap<List<(Moment, i64)>>,
+    entry: Entry,
+) -> Result<(), NoMemory>
+    ensures { OnOk result (series.new ≡ spec.with_sample series.old entry) }
+{
+    let Entry { labels, at, value } = entry;
     match value {
-        Some(value) => elements.push((labels, value)),
+        Some(value) => series.add(alloc, labels, (at, value)),
         None => Ok(()),
     }
 }

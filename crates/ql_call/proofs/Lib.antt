@@ -1,0 +1,6 @@
+mod JoinLemmas
+mod LoopLemmas
+mod NumberLemmas
+mod RateLemmas
+mod StampLemmas
+mod WalkLemmas

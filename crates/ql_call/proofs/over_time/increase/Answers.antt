@@ -1,0 +1,13 @@
+use Rattle.std.proofs.Common.{SFits, ap, ◌∙◌, rules}
+use mir.Syntax.{w64, w128}
+use Rattle.std.proofs.lemmas.Int.{to_z-of_z}
+use Rattle.ql_tree.specs.Arithmetic.{clamped}
+use Rattle.ql_call.proofs.RateLemmas.{two_numbers}
+use Rattle.ql_call.proofs.over_time.increase.Goals as goal
+
+pub returns-in-len2-up : goal.returns-in-len2-up
+returns-in-len2-up c =
+    let given : SFits w128 c.increase_in.result = search rules in
+    let shown : SFits w64 c.clamped.result = search rules in
+    two_numbers c.args.samples.now _ _ c.in-len2-up.len_at_least
+    (to_z-of_z w64 c.clamped.result shown ∙ c.clamped.ensures ∙ ap clamped (to_z-of_z w128 c.increase_in.result given ∙ c.increase_in.ensures))

@@ -1,0 +1,17 @@
+pub mod Aggregates
+pub mod CallSteps
+pub mod Calls
+pub mod Clashes
+pub mod Elements
+pub mod Functions
+pub mod Kept
+pub mod Keyed
+pub mod LabelCalls
+pub mod Matched
+pub mod Numbers
+pub mod Operands
+pub mod Operators
+pub mod Over
+pub mod Ranked
+pub mod Sets
+pub mod Walks

@@ -1,0 +1,51 @@
+// The labels of elements.
+ghost use Rattle.std.specs.Prelude.{◌≡◌, fold, drop, IfOk, OnOk};
+ghost use Rattle.op_base.specs.Labels.{labels_with};
+ghost use Rattle.op_base.specs.Matchers.{label_value};
+ghost use Rattle.ql_call.specs.Elements as spec;
+
+use op_base::{Labels, NoMemory, Text};
+use std::alloc::Global;
+
+pub(crate) const NAME: &str = "__name__";
+
+/// The labels without the name.
+pub(crate) fn without_name(labels: &Labels) -> Result<Labels, NoMemory>
+    ensures { IfOk result (λ kept. kept ≡ spec.without_name labels.now) }
+{
+    let mut kept = labels.copy()?;
+    kept.remove(NAME);
+    Ok(kept)
+}
+
+/// The labels of these names alone.
+pub(crate) fn only(alloc: Global, names: &[Text], labels: &Labels) -> Result<Labels, NoMemory>
+    ensures { IfOk result (λ kept. kept ≡ spec.only names.now labels.now) }
+{
+    let mut kept = Labels::new(alloc);
+    for name in names {
+        kept.set(name.as_str(), value_of(labels, name.as_str()))?;
+    }
+    Ok(kept)
+}
+
+/// The labels of all other names.
+pub(crate) fn without(names: &[Text], labels: &Labels) -> Result<Labels, NoMemory>
+    ensures { IfOk result (λ kept. kept ≡ spec.without names.now labels.now) }
+{
+    let mut kept = labels.copy()?;
+    for name in names {
+        kept.remove(name.as_str());
+    }
+    Ok(kept)
+}
+
+/// The value of a label; a missing one is the empty text.
+pub(crate) fn value_of<'a>(labels: &'a Labels, name: &str) -> &'a str
+    ensures { result.now ≡ label_value labels.now name.now }
+{
+    match labels.get(name) {
+        Some(value) => value,
+        None => "",
+    }
+}

@@ -1,0 +1,5 @@
+mod AbsentLemmas
+pub mod EnforcedLaws
+mod FailureLemmas
+mod MatcherLemmas
+mod SelectorLemmas

@@ -1,0 +1,5 @@
+pub mod Absent
+pub mod Enforcement
+pub mod Holding
+pub mod Selected
+pub mod Values

@@ -1,0 +1,20 @@
+//! The evaluator of PromQL over whole numbers.
+//!
+//! `specs/Values.antt` says what an expression means over a store at a moment, node by node. That an
+//! expression with an enforced label means over all entries what it means as it is written over the
+//! entries of that label alone is the contract of `enforced_alike`.
+#![tactic(auto)]
+
+ghost use Rattle.ql_eval.specs.Enforcement.{IsEnforcedAlike};
+
+mod absent;
+mod evaluation;
+mod selector;
+
+pub use evaluation::eval;
+
+/// The value of an enforced expression is the value of the expression as it is written, over the
+/// entries of the one namespace.
+pub fn enforced_alike()
+    ensures { IsEnforcedAlike }
+{}
