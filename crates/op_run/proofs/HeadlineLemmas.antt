@@ -12,11 +12,10 @@ use Rattle.op_report.proofs.CleanLemmas.{json_clean, json_object_begins}
 use Rattle.cfg_types.specs.Written.{config_json}
 use Rattle.op_thin.specs.Compiled.{config_of}
 use Rattle.op_thin.specs.Items.{item_of}
-use Rattle.op_thin.proofs.NamedLemmas.{named, run_names}
+use Rattle.op_thin.proofs.NamedLemmas.{named}
 use Rattle.tenant_world.specs.Events.{Event, HaveNames, given}
 use Rattle.tenant_world.specs.Runs.{beginning}
 use Rattle.tenant_world.proofs.EventLaws.{isolated}
-use Rattle.op_run.specs.declared.command.Command.TheVariants.{Run}
 use Rattle.op_run.specs.declared.files.NamedFile.{NamedFile}
 use Rattle.op_run.specs.Inputs.{file_events, line_events, events_from, events_of}
 use Rattle.op_run.specs.Headline.{Headline}
@@ -40,14 +39,14 @@ lines_names count [] = tt
 lines_names count (line ∷ lines) =
     names-append (line_events (count + 1) line) (events_from (count + 1) lines) (line_names (count + 1) line) (lines_names (count + 1) lines)
 
-files_names : (files : List NamedFile) → HaveNames (file_events Run files)
+files_names : (files : List NamedFile) → HaveNames (file_events files)
 files_names [] = tt
-files_names (file ∷ files) = (run_names (item_of file.bytes) (named file.bytes), files_names files)
+files_names (file ∷ files) = (named file.bytes, files_names files)
 
 -- the objects of all events have well-formed namespaces
 events_names : (files : List NamedFile) (bytes : List ℕ) → HaveNames (events_of files bytes)
 events_names files bytes =
-    names-append (file_events Run files) (events_from 0 (shown_lines bytes)) (files_names files) (lines_names 0 (shown_lines bytes))
+    names-append (file_events files) (events_from 0 (shown_lines bytes)) (files_names files) (lines_names 0 (shown_lines bytes))
 
 -- the text of the objects present is one line
 final_clean : (events : List Event) → IsClean (final_text events)

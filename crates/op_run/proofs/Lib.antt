@@ -4,6 +4,5 @@ pub mod HeadlineLemmas
 mod LineRunLemmas
 mod LinesRanLemmas
 mod NamedRunLemmas
-mod PatternLemmas
 mod RunLemmas
 mod WholeRunLemmas

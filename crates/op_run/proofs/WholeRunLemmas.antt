@@ -12,7 +12,6 @@ use Rattle.op_thin.specs.Compiled.{config_of}
 use Rattle.op_thin.specs.Objects.{Present, nothing}
 use Rattle.srv_run.specs.Served.{Served, Serving, new_serving}
 use Rattle.tenant_world.specs.Runs.{beginning, run, left_by}
-use Rattle.op_run.specs.declared.command.Command.TheVariants.{Run}
 use Rattle.op_run.specs.declared.files.NamedFile.{NamedFile}
 use Rattle.op_run.specs.Inputs.{file_events, events_from, events_of}
 use Rattle.op_run.specs.Lines.{all_said}
@@ -27,9 +26,9 @@ begins objects server none new = λ i. record { objects = none i; served = (new 
 
 -- the files of a folder left these objects and this server, and the input has these bytes
 module _ (files : List NamedFile) (bytes : List ℕ) (objects : Present) (served : Served)
-    (is : record { objects = objects; served = served } ≡ left_by beginning (file_events Run files)) where
+    (is : record { objects = objects; served = served } ≡ left_by beginning (file_events files)) where
   abbrev ones : List Report
-  ones = run beginning (file_events Run files)
+  ones = run beginning (file_events files)
 
   abbrev others : List Report
   others = all_said (config_of objects) served 0 (shown_lines bytes)
@@ -39,13 +38,13 @@ module _ (files : List NamedFile) (bytes : List ℕ) (objects : Present) (served
 
   -- the reports are the files' and then the input's
   reports : run_reports files bytes ≡ ones ++ others
-  reports = run-append beginning (file_events Run files) (events_from 0 (shown_lines bytes))
+  reports = run-append beginning (file_events files) (events_from 0 (shown_lines bytes))
       ∙ ap (λ w. ones ++ run w (events_from 0 (shown_lines bytes))) (sym is)
       ∙ ap (λ l. ones ++ l) (lines_run objects served 0 (shown_lines bytes))
 
   -- the input leaves the objects
   objects_stay : present (events_of files bytes) ≡ objects
-  objects_stay = ap (λ w. w.objects) (left_by-append beginning (file_events Run files) (events_from 0 (shown_lines bytes)))
+  objects_stay = ap (λ w. w.objects) (left_by-append beginning (file_events files) (events_from 0 (shown_lines bytes)))
       ∙ ap (λ w. (left_by w (events_from 0 (shown_lines bytes))).objects) (sym is)
       ∙ lines_left objects served 0 (shown_lines bytes)
 
@@ -56,7 +55,7 @@ module _ (files : List NamedFile) (bytes : List ℕ) (objects : Present) (served
       ∙ append_assoc (report_bytes ones) (report_bytes others) last
 
   -- all was written
-  pub wrote_run : (a b c : Option (List ℕ)) → Appends a b (report_bytes (run beginning (file_events Run files)))
+  pub wrote_run : (a b c : Option (List ℕ)) → Appends a b (report_bytes (run beginning (file_events files)))
       → Appends b c (report_bytes (all_said (config_of objects) served 0 (shown_lines bytes)) ++ (config_text (config_of objects) ++ NEWLINE ∷ []))
       → Appends a c (run_text files bytes)
   wrote_run a b c first second =
@@ -64,26 +63,26 @@ module _ (files : List NamedFile) (bytes : List ℕ) (objects : Present) (served
       (appends_twice a b c (report_bytes ones) (report_bytes others ++ last) first second)
 
   -- the files' lines were written, and a part of the rest
-  pub wrote_part : (a b c : Option (List ℕ)) → Appends a b (report_bytes (run beginning (file_events Run files)))
+  pub wrote_part : (a b c : Option (List ℕ)) → Appends a b (report_bytes (run beginning (file_events files)))
       → AppendsPrefix b c (report_bytes (all_said (config_of objects) served 0 (shown_lines bytes)) ++ (config_text (config_of objects) ++ NEWLINE ∷ []))
       → AppendsPrefix a c (run_text files bytes)
   wrote_part a b c first part =
       subst (AppendsPrefix a c) (sym whole) (prefix_after a b c (report_bytes ones) (report_bytes others ++ last) first part)
 
   -- both are answered well
-  pub well_run : (good well joined : Bool) → good ≡ all_well (run beginning (file_events Run files))
+  pub well_run : (good well joined : Bool) → good ≡ all_well (run beginning (file_events files))
       → well ≡ all_well (all_said (config_of objects) served 0 (shown_lines bytes)) → joined ≡ (good && well) → joined ≡ all_well (run_reports files bytes)
   well_run good well joined one other is_joined =
       is_joined ∙ ap (λ b. b && well) one ∙ ap (λ b. all_well ones && b) other ∙ sym (well-append ones others) ∙ sym (ap all_well reports)
 
 -- a part of the files' lines was written
-pub wrote_some : (files : List NamedFile) (bytes : List ℕ) (a b : Option (List ℕ)) → AppendsPrefix a b (report_bytes (run beginning (file_events Run files)))
+pub wrote_some : (files : List NamedFile) (bytes : List ℕ) (a b : Option (List ℕ)) → AppendsPrefix a b (report_bytes (run beginning (file_events files)))
     → AppendsPrefix a b (run_text files bytes)
 wrote_some files bytes a b part =
-    let first = run beginning (file_events Run files) in
-    let more = run (left_by beginning (file_events Run files)) (events_from 0 (shown_lines bytes)) in
+    let first = run beginning (file_events files) in
+    let more = run (left_by beginning (file_events files)) (events_from 0 (shown_lines bytes)) in
     let last = final_text (events_of files bytes) ++ NEWLINE ∷ [] in
     subst (AppendsPrefix a b)
-    (sym (ap (λ l. l ++ last) (ap report_bytes (run-append beginning (file_events Run files) (events_from 0 (shown_lines bytes))) ∙ bytes-append first more)
+    (sym (ap (λ l. l ++ last) (ap report_bytes (run-append beginning (file_events files) (events_from 0 (shown_lines bytes))) ∙ bytes-append first more)
     ∙ append_assoc (report_bytes first) (report_bytes more) last))
     (prefix_of_more a b (report_bytes first) (report_bytes more ++ last) part)

@@ -5,24 +5,16 @@ use Rattle.op_edges.specs.declared.lines.Line.{Line}
 use Rattle.op_edges.specs.declared.lines.Line.TheVariants.{Whole, Long, End, Fault, Limit}
 use Rattle.op_edges.specs.Lines.{shown_lines}
 use Rattle.op_input.specs.Lines.{is_blank, line_of}
-use Rattle.op_thin.specs.declared.item.Item.{Item}
-use Rattle.op_thin.specs.Items.{item_of, run_item}
+use Rattle.op_thin.specs.Items.{item_of}
 use Rattle.tenant_world.specs.Events.{Event, manifest, given, long}
-use Rattle.op_run.specs.declared.command.Command.{Command}
-use Rattle.op_run.specs.declared.command.Command.TheVariants.{Compile, Run}
 use Rattle.op_run.specs.declared.files.NamedFile.{NamedFile}
 
--- what a command makes of the bytes of a manifest
-abbrev pub item_by : Command → List ℕ → Item
-item_by Compile bytes = item_of bytes
-item_by Run bytes = run_item (item_of bytes)
-
 -- a file is one event
-abbrev pub file_event : Command → NamedFile → Event
-file_event command file = manifest file.name (item_by command file.bytes)
+abbrev pub file_event : NamedFile → Event
+file_event file = manifest file.name (item_of file.bytes)
 
-abbrev pub file_events : Command → List NamedFile → List Event
-file_events command files = map (file_event command) files
+abbrev pub file_events : List NamedFile → List Event
+file_events files = map file_event files
 
 -- the event of a line; a blank one is none, and an end, a fault or a limit is no line
 abbrev pub line_events : ℕ → Line → List Event
@@ -39,4 +31,4 @@ events_from count (line ∷ lines) = line_events (count + 1) line ++ events_from
 
 -- all events of a run
 abbrev pub events_of : List NamedFile → List ℕ → List Event
-events_of files bytes = file_events Run files ++ events_from 0 (shown_lines bytes)
+events_of files bytes = file_events files ++ events_from 0 (shown_lines bytes)

@@ -8,7 +8,6 @@ use Rattle.op_thin.specs.Compiled.{config_of}
 use Rattle.op_thin.specs.Objects.{Present}
 use Rattle.tenant_world.specs.Events.{Event}
 use Rattle.tenant_world.specs.Runs.{beginning, run, left_by}
-use Rattle.op_run.specs.declared.command.Command.TheVariants.{Compile}
 use Rattle.op_run.specs.declared.files.NamedFile.{NamedFile}
 use Rattle.op_run.specs.Inputs.{file_events, events_of}
 
@@ -22,11 +21,11 @@ final_text events = config_text (config_of (present events))
 
 -- the reports of the folder's files
 abbrev pub reports_of : List NamedFile → List Report
-reports_of files = run beginning (file_events Compile files)
+reports_of files = run beginning (file_events files)
 
 -- the configuration of the folder, and a newline
 abbrev pub configuration_of : List NamedFile → List ℕ
-configuration_of files = final_text (file_events Compile files) ++ NEWLINE ∷ []
+configuration_of files = final_text (file_events files) ++ NEWLINE ∷ []
 
 -- the reports of a run
 abbrev pub run_reports : List NamedFile → List ℕ → List Report

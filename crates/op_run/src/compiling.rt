@@ -10,7 +10,6 @@ ghost use Rattle.op_run.specs.Outputs.{reports_of, configuration_of};
 ghost use Rattle.op_run.specs.Stops.{IsWriting};
 ghost use Rattle.op_run.specs.WellAnswered.{all_well};
 
-use crate::command::Command;
 use crate::configuration::configuration;
 use crate::files::NamedFile;
 use crate::folder::report_files;
@@ -49,14 +48,7 @@ pub fn compile_files<O: Sink, E: Sink>(
         Ok(server) => server,
         Err(_) => return Err(Stop::Memory),
     };
-    match report_files(
-        alloc,
-        Command::Compile,
-        files,
-        &mut objects,
-        &mut server,
-        err,
-    ) {
+    match report_files(alloc, files, &mut objects, &mut server, err) {
         Ok(good) => match write_configuration(alloc, objects, out) {
             Ok(()) => Ok(good),
             Err(stop) => Err(stop),

@@ -9,7 +9,6 @@ ghost use Rattle.op_run.specs.Inputs.{file_event, file_events};
 ghost use Rattle.op_run.specs.WellAnswered.{all_well};
 ghost use Rattle.op_run.specs.Stops.{IsWriting};
 
-use crate::command::Command;
 use crate::files::NamedFile;
 use crate::manifest::take_file;
 use crate::reports::{both, write_report};
@@ -23,20 +22,19 @@ use std::alloc::Global;
 /// Answers whether each report has good answers alone.
 pub fn report_files<O: Sink>(
     alloc: Global,
-    command: Command,
     files: &[NamedFile],
     objects: &mut Objects,
     server: &mut Server,
     sink: &mut O,
 ) -> Result<bool, Stop>
     ensures lines { OnOk result (Appends (O.taken sink.old) (O.taken sink.new)
-        (report_bytes (run (world objects.old server.old.served) (file_events command files.now)))) }
+        (report_bytes (run (world objects.old server.old.served) (file_events files.now)))) }
     ensures world { OnOk result (world objects.new server.new.served
-        ≡ left_by (world objects.old server.old.served) (file_events command files.now)) }
+        ≡ left_by (world objects.old server.old.served) (file_events files.now)) }
     ensures good { IfOk result (λ good. good
-        ≡ all_well (run (world objects.old server.old.served) (file_events command files.now))) }
+        ≡ all_well (run (world objects.old server.old.served) (file_events files.now))) }
     ensures prefix { OnErr result (AppendsPrefix (O.taken sink.old) (O.taken sink.new)
-        (report_bytes (run (world objects.old server.old.served) (file_events command files.now)))) }
+        (report_bytes (run (world objects.old server.old.served) (file_events files.now)))) }
     ensures later { O.faults sink.old ≤ O.faults sink.new }
     ensures failed { IfErr result (λ stop. stop ≡ Stop.Output
         → Rose (O.faults sink.old) (O.faults sink.new)) }
@@ -44,7 +42,7 @@ pub fn report_files<O: Sink>(
 {
     let mut good = true;
     for file in files {
-        match report_file(alloc, command, file, objects, server, sink) {
+        match report_file(alloc, file, objects, server, sink) {
             Ok(well) => good = both(good, well),
             Err(stop) => return Err(stop),
         }
@@ -54,26 +52,25 @@ pub fn report_files<O: Sink>(
 
 fn report_file<O: Sink>(
     alloc: Global,
-    command: Command,
     file: &NamedFile,
     objects: &mut Objects,
     server: &mut Server,
     sink: &mut O,
 ) -> Result<bool, Stop>
     ensures line { OnOk result (Appends (O.taken sink.old) (O.taken sink.new)
-        (report_bytes (said (world objects.old server.old.served) (file_event command file.now)))) }
+        (report_bytes (said (world objects.old server.old.served) (file_event file.now)))) }
     ensures world { OnOk result (world objects.new server.new.served
-        ≡ next (world objects.old server.old.served) (file_event command file.now)) }
+        ≡ next (world objects.old server.old.served) (file_event file.now)) }
     ensures good { IfOk result (λ good. good
-        ≡ all_well (said (world objects.old server.old.served) (file_event command file.now))) }
+        ≡ all_well (said (world objects.old server.old.served) (file_event file.now))) }
     ensures prefix { OnErr result (AppendsPrefix (O.taken sink.old) (O.taken sink.new)
-        (report_bytes (said (world objects.old server.old.served) (file_event command file.now)))) }
+        (report_bytes (said (world objects.old server.old.served) (file_event file.now)))) }
     ensures later { O.faults sink.old ≤ O.faults sink.new }
     ensures failed { IfErr result (λ stop. stop ≡ Stop.Output
         → Rose (O.faults sink.old) (O.faults sink.new)) }
     ensures kinds { IfErr result IsWriting }
 {
-    match take_file(alloc, command, file, objects, server) {
+    match take_file(alloc, file, objects, server) {
         Ok(report) => write_report(alloc, &report, sink),
         Err(_) => Err(Stop::Memory),
     }

@@ -5,7 +5,6 @@
 //! lines of an input over what was compiled. Read `specs/Outputs.antt` first.
 #![tactic(auto)]
 
-mod command;
 mod compiling;
 mod configuration;
 mod files;

@@ -1,59 +1,44 @@
 ghost use Rattle.std.specs.Prelude.{◌≡◌, [], true, false, option_map, IfSome, IfOk, OnOk};
 ghost use Rattle.op_base.specs.Names.{is_namespace};
-ghost use Rattle.op_thin.specs.Items.{IsThinProbe};
-ghost use Rattle.op_thin.specs.Items as items;
+ghost use Rattle.op_thin.specs.Items.{IsThinProbe, item_of};
 ghost use Rattle.op_thin.specs.Judged.{IsTyped};
 ghost use Rattle.op_thin.specs.Objects.{is_taken};
 ghost use Rattle.srv_run.specs.Served.{with_known};
 ghost use Rattle.tenant_world.specs.Runs as spec;
 ghost use Rattle.op_run.specs.Worlds.{world};
-ghost use Rattle.op_run.specs.Inputs.{item_by, file_event};
+ghost use Rattle.op_run.specs.Inputs.{file_event};
 
-use crate::command::Command;
 use crate::files::NamedFile;
 use op_base::{Key, Kind, List, NoMemory, Text};
 use op_report::{Report, View};
-use op_thin::{Item, Objects, ThinProbe, ThinRule, item_of, run_item};
+use op_thin::{Item, Objects, ThinProbe, ThinRule, item_of};
 use srv_run::{Event, Server};
 use std::alloc::Global;
 
 /// Where a thin rule's expression stands.
 const EXPR_PATH: &str = "spec.groups[0].rules[0].expr";
 
-/// Reads the file's bytes for the command, takes the object that they put, and says what is reported of it. The
-/// namespace of an object that is taken is known from then on.
+/// Takes the object that the file's bytes put, and says what is reported of it. The namespace of an object
+/// that is taken is known from then on.
 pub fn take_file(
     alloc: Global,
-    command: Command,
     file: &NamedFile,
     objects: &mut Objects,
     server: &mut Server,
 ) -> Result<Report, NoMemory>
     ensures report { IfOk result (λ report. report
-        ≡ spec.item_report file.now.name (item_by command file.now.bytes)
-        (is_taken objects.old (item_by command file.now.bytes))) }
+        ≡ spec.item_report file.now.name (item_of file.now.bytes)
+        (is_taken objects.old (item_of file.now.bytes))) }
     ensures world { OnOk result (world objects.new server.new.served
-        ≡ spec.next (world objects.old server.old.served) (file_event command file.now)) }
+        ≡ spec.next (world objects.old server.old.served) (file_event file.now)) }
     ensures named { IfOk result (λ report. IfSome report.to
         (λ namespace. is_namespace namespace ≡ true)) }
 {
-    match read_item(alloc, command, file.bytes.as_slice())? {
+    match item_of(alloc, file.bytes.as_slice())? {
         Item::Broken => not_json(alloc, &file.name),
         Item::NotYet => not_yet(&file.name),
         Item::Rule(rule) => take_rule(alloc, &file.name, rule, objects, server),
         Item::Probe(probe) => take_probe(alloc, &file.name, probe, objects, server),
-    }
-}
-
-fn read_item(alloc: Global, command: Command, bytes: &[u8]) -> Result<Item, NoMemory>
-    ensures item { IfOk result (λ item. item ≡ item_by command bytes.now) }
-    ensures named { IfOk result items.IsNamed }
-    ensures judged { IfOk result items.IsJudged }
-{
-    let item = item_of(alloc, bytes)?;
-    match command {
-        Command::Compile => Ok(item),
-        Command::Run => Ok(run_item(item)),
     }
 }
 

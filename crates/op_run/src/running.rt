@@ -12,7 +12,6 @@ ghost use Rattle.op_run.specs.Lines.{all_said};
 ghost use Rattle.op_run.specs.Outputs.{run_reports, run_text};
 ghost use Rattle.op_run.specs.WellAnswered.{all_well};
 
-use crate::command::Command;
 use crate::configuration::configuration;
 use crate::files::NamedFile;
 use crate::folder::report_files;
@@ -57,7 +56,7 @@ pub fn run_files<S: Source, O: Sink>(
         Ok(server) => server,
         Err(_) => return Err(Stop::Memory),
     };
-    match report_files(alloc, Command::Run, files, &mut objects, &mut server, out) {
+    match report_files(alloc, files, &mut objects, &mut server, out) {
         Ok(good) => match run_configured(alloc, objects, server, input, out) {
             Ok(well) => Ok(both(good, well)),
             Err(stop) => Err(stop),

@@ -10,7 +10,7 @@ use Rattle.op_thin.specs.ThinRules as rules
 use Rattle.op_thin.specs.ThinProbes as probes
 use Rattle.op_thin.specs.declared.item.Item.{Item}
 use Rattle.op_thin.specs.declared.item.Item.TheVariants.{Broken, NotYet, Rule, Probe}
-use Rattle.op_thin.specs.Items.{json_of, item_of_objects, item_of_json, item_of, runs, run_item, IsThinProbe, IsNamed}
+use Rattle.op_thin.specs.Items.{json_of, item_of_objects, item_of_json, item_of, IsThinProbe, IsNamed}
 
 -- nothing is said of a value
 abbrev Anything : {A : Type 0} → A → Type 0
@@ -111,14 +111,3 @@ json_named (Some d) = objects_named (rules.thin_rule_of d) (probes.thin_probe_of
 -- what bytes are names what is well formed
 pub named : (bytes : List ℕ) → IsNamed (item_of bytes)
 named bytes = json_named (json_of bytes)
-
--- and so does what a run makes of it
-pub run_names : (item : Item) → IsNamed item → IsNamed (run_item item)
-run_names Broken names = tt
-run_names NotYet names = tt
-run_names (Rule rule) names =
-    elim (runs rule.expr rule.judged) as (λ b. IsNamed (if b then Rule rule else NotYet)) [
-      | true ↦ names
-      | false ↦ tt
-    ]
-run_names (Probe probe) names = names

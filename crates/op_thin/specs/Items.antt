@@ -3,11 +3,9 @@ use Rattle.std.specs.Prelude.{◌≡◌, ℕ, Bool, true, List, Option, Some, No
 use Rattle.std.specs.Str.{is_utf8}
 use Rattle.serde_json.specs.Data.{Data}
 use Rattle.serde_json.specs.Read.{read}
-use Rattle.op_base.specs.Names.{is_namespace, is_metric_name}
+use Rattle.op_base.specs.Names.{is_namespace}
 use Rattle.op_thin.specs.declared.item.Item.{Item}
 use Rattle.op_thin.specs.declared.item.Item.TheVariants.{Broken, NotYet, Rule, Probe}
-use Rattle.op_thin.specs.declared.judged.Judged.{Judged}
-use Rattle.op_thin.specs.declared.judged.Judged.TheVariants.{Tree, NotExpr, IllTyped, Nameless}
 use Rattle.op_thin.specs.declared.rule.ThinRule.{ThinRule}
 use Rattle.op_thin.specs.declared.probe.ThinProbe.{ThinProbe}
 use Rattle.op_thin.specs.Judged.{IsTyped}
@@ -50,17 +48,3 @@ IsJudged Broken = Unit {0}
 IsJudged NotYet = Unit {0}
 IsJudged (Rule rule) = IsTyped rule.judged
 IsJudged (Probe probe) = Unit {0}
-
--- a rule whose expression is taken runs, so far, where its text is a metric's name
-abbrev pub runs : List ℕ → Judged → Bool
-runs text (Tree e) = is_metric_name text
-runs text NotExpr = true
-runs text IllTyped = true
-runs text Nameless = true
-
--- what a run makes of an item: a rule that doesn't run is of a form that isn't read yet
-abbrev pub run_item : Item → Item
-run_item Broken = Broken
-run_item NotYet = NotYet
-run_item (Rule rule) = if runs rule.expr rule.judged then Rule rule else NotYet
-run_item (Probe probe) = Probe probe

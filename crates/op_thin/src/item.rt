@@ -3,10 +3,9 @@ ghost use Rattle.serde_json.specs.View.{view};
 ghost use Rattle.op_thin.specs.ThinProbes.{thin_probe_of};
 ghost use Rattle.op_thin.specs.Items as spec;
 
-use crate::judged::Judged;
 use crate::probe::{ThinProbe, thin_probe};
 use crate::rule::{ThinRule, thin_rule};
-use op_base::{NoMemory, is_metric_name};
+use op_base::NoMemory;
 use serde_json::Value;
 use std::alloc::Global;
 
@@ -33,40 +32,9 @@ pub fn item_of(alloc: Global, bytes: &[u8]) -> Result<Item, NoMemory>
     }
 }
 
-/// What a run makes of the item: a rule whose expression is taken and is no metric's name isn't read
-/// yet.
-pub fn run_item(item: Item) -> Item
-    requires named { spec.IsNamed item }
-    requires judged { spec.IsJudged item }
-    ensures item { result ≡ spec.run_item item }
-    ensures named { spec.IsNamed result }
-    ensures judged { spec.IsJudged result }
-{
-    match item {
-        Item::Rule(rule) => {
-            if runs(&rule) {
-                Item::Rule(rule)
-            } else {
-                Item::NotYet
-            }
-        }
-        other => other,
-    }
-}
-
-fn runs(rule: &ThinRule) -> bool
-    ensures { result ≡ spec.runs rule.now.expr rule.now.judged }
-{
-    match &rule.judged {
-        Judged::Tree(_) => is_metric_name(rule.expr.as_str()),
-        _ => true,
-    }
-}
-
-/// What the bytes of any manifest are names what is well formed, and so does what a run makes of it.
+/// What the bytes of any manifest are names what is well formed.
 pub fn item_names()
-    ensures item { (bytes : List ℕ) → spec.IsNamed (spec.item_of bytes) }
-    ensures run { (bytes : List ℕ) → spec.IsNamed (spec.run_item (spec.item_of bytes)) }
+    ensures { (bytes : List ℕ) → spec.IsNamed (spec.item_of bytes) }
 {}
 
 fn item_of_value(alloc: Global, value: &Value) -> Result<Item, NoMemory>

@@ -17,7 +17,7 @@ mod rule;
 mod tests;
 
 pub use compiled::compile;
-pub use item::{Item, item_names, item_of, run_item};
+pub use item::{Item, item_names, item_of};
 pub use judged::Judged;
 pub use objects::Objects;
 pub use probe::ThinProbe;

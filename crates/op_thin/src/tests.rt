@@ -60,16 +60,6 @@ fn an_expression_may_skip_its_object(rt: HostRuntime) -> Result<(), Fail> {
     Ok(())
 }
 
-#[test]
-fn a_run_takes_a_metric_alone(rt: HostRuntime) -> Result<(), Fail> {
-    let alloc = rt.alloc();
-    let plain = run_item(item_of(alloc, RULE.as_bytes())?);
-    assert!(rt; plain != Item::NotYet, "a metric's name");
-    let sum = run_item(item_of(alloc, SUM.as_bytes())?);
-    assert!(rt; sum == Item::NotYet, "a call");
-    Ok(())
-}
-
 fn put(alloc: Global, objects: &mut Objects, manifest: &str) -> Result<bool, NoMemory> {
     match item_of(alloc, manifest.as_bytes())? {
         Item::Rule(rule) => objects.put_rule(rule),

@@ -8,6 +8,10 @@
 ghost use Rattle.std.specs.Prelude.{◌≡◌, ◌<◌};
 
 mod compiling;
+#[cfg(test)]
+mod evaluation_tables;
+#[cfg(test)]
+mod evaluation_tests;
 mod program;
 #[cfg(test)]
 mod promql_tables;

@@ -115,6 +115,22 @@ fn expressions_in_a_run(rt: HostRuntime) -> Result<(), Fail> {
 }
 
 #[test]
+fn rules_that_fail_in_a_run(rt: HostRuntime) -> Result<(), Fail> {
+    let alloc = rt.alloc();
+    let rules = folder(
+        alloc,
+        &[
+            ("1.json", "a", "r", "count_values('namespace', vector(7))"),
+            ("2.json", "a", "s", "1 / 0"),
+        ],
+    )?;
+    let input = source(alloc, "{\"tick\":0}\n")?;
+    let want = want_of(Status::Done, FAILED_IN_A_RUN, "");
+    runs(&rt, alloc, rules, input, want)?;
+    Ok(())
+}
+
+#[test]
 fn names_that_the_target_has_too(rt: HostRuntime) -> Result<(), Fail> {
     let alloc = rt.alloc();
     let mut folder = MemFolder::new(alloc, List::new(alloc));
@@ -252,5 +268,8 @@ const CLASHING: &str =
 const RENAMED: &str =
     "a\t{\"also\":[],\"answer\":\"Admitted\",\"put\":\"Probe/a/p\"}\n-\t{\"answer\":\"Admitted\",\"page\":\"http://u/probe?target=t\"}\na\t{\"alerts\":[],\"failed\":[],\"stored\":[[{\"__name__\":\"up\",\"instance\":\"t\",\"job\":\"probe/a/p\",\"namespace\":\"a\"},1],[{\"__name__\":\"x\",\"exported_exported_exported_job\":\"1\",\"exported_exported_job\":\"3\",\"exported_job\":\"2\",\"instance\":\"t\",\"job\":\"probe/a/p\",\"namespace\":\"a\"},2],[{\"__name__\":\"x\",\"exported_exported_job\":\"1\",\"exported_job\":\"2\",\"instance\":\"t\",\"job\":\"probe/a/p\",\"namespace\":\"a\"},1],[{\"__name__\":\"x\",\"exported_exported_namespace\":\"b\",\"exported_instance\":\"i\",\"exported_namespace\":\"c\",\"instance\":\"t\",\"job\":\"probe/a/p\",\"namespace\":\"a\"},4],[{\"__name__\":\"x\",\"exported_job\":\"2\",\"instance\":\"t\",\"job\":\"probe/a/p\",\"namespace\":\"a\"},3]],\"tick\":0}\n-\t{\"alerts\":[],\"failed\":[],\"stored\":[],\"tick\":0}\n";
 
+const FAILED_IN_A_RUN: &str =
+    "a\t{\"also\":[],\"answer\":\"Admitted\",\"put\":\"PrometheusRule/a/r\"}\na\t{\"also\":[],\"answer\":\"Admitted\",\"put\":\"PrometheusRule/a/s\"}\na\t{\"alerts\":[],\"failed\":[[\"s\",\"g\",0]],\"stored\":[[{\"__name__\":\"a:x\",\"namespace\":\"a\"},1]],\"tick\":0}\n-\t{\"alerts\":[],\"failed\":[],\"stored\":[],\"tick\":0}\n{\"alertmanager\":null,";
+
 const RULES_IN_A_RUN: &str =
-    "a\t{\"also\":[],\"answer\":\"Admitted\",\"put\":\"PrometheusRule/a/r\"}\n-\t{\"bad\":\"NotYet\",\"file\":\"2.json\",\"item\":0}\na\t{\"also\":[],\"answer\":\"Skipped\",\"path\":\"spec.groups[0].rules[0].expr\",\"put\":\"PrometheusRule/a/s\",\"rule\":\"A13\"}\n{\"alertmanager\":null,\"prometheus\":{\"global\":{\"evaluation_interval\":\"30s\",\"external_labels\":{},\"scrape_interval\":\"30s\",\"scrape_timeout\":\"10s\"},\"scrape_configs\":[]},\"rules\":{\"a/r\":{\"groups\":[{\"name\":\"g\",\"rules\":[{\"expr\":\"x{namespace=\\\"a\\\"}\",\"labels\":{\"namespace\":\"a\"},\"record\":\"a:x\"}]}]}}}\n";
+    "a\t{\"also\":[],\"answer\":\"Admitted\",\"put\":\"PrometheusRule/a/r\"}\na\t{\"also\":[],\"answer\":\"Admitted\",\"put\":\"PrometheusRule/a/r\"}\na\t{\"also\":[],\"answer\":\"Skipped\",\"path\":\"spec.groups[0].rules[0].expr\",\"put\":\"PrometheusRule/a/s\",\"rule\":\"A13\"}\n{\"alertmanager\":null,\"prometheus\":{\"global\":{\"evaluation_interval\":\"30s\",\"external_labels\":{},\"scrape_interval\":\"30s\",\"scrape_timeout\":\"10s\"},\"scrape_configs\":[]},\"rules\":{\"a/r\":{\"groups\":[{\"name\":\"g\",\"rules\":[{\"expr\":\"sum(x{namespace=\\\"a\\\"})\",\"labels\":{\"namespace\":\"a\"},\"record\":\"a:x\"}]}]}}}\n";

@@ -1,3 +1,2 @@
-pub mod MatcherLemmas
 pub mod RunLemmas
 mod StaleLemmas

@@ -10,10 +10,10 @@ use Rattle.cfg_types.specs.declared.config.Rule.{Rule}
 use Rattle.srv_store.specs.declared.entry.Entry.{Entry}
 use Rattle.srv_store.specs.Stores.{Store, Vector, Grows, AddsPrefix, with_all}
 use Rattle.srv_store.proofs.GrowthLemmas.{grows-itself, grows-further, grows-with_all}
-use Rattle.srv_rule.specs.Evaluated.{vector_of}
+use Rattle.ql_eval.specs.Values.{value_of}
 use Rattle.srv_rule.specs.Recorded.{results_of}
 use Rattle.srv_rule.specs.declared.view.FailedRule.{FailedRule}
-use Rattle.srv_rule.specs.Rounds.{States, Placed, Ran, ran_of, stored, id_of, last_of, placed_at, placed_from, placed_in, placed_of, after_results, after_rule, after_each, gone, gone_entries, round_of, HavePatternsIn}
+use Rattle.srv_rule.specs.Rounds.{States, Placed, Ran, around, ran_of, stored, id_of, last_of, placed_at, placed_from, placed_in, placed_of, after_results, after_rule, after_each, gone, gone_entries, round_of}
 
 abbrev after_one : Moment → States → Ran → Placed → Ran
 after_one = after_rule [] []
@@ -30,7 +30,7 @@ grows-results t ran placed last results =
 
 pub grows-rule : (t : Moment) (before : States) (ran : Ran) (placed : Placed) → Grows ran.store (stored (after_one t before ran placed))
 grows-rule t before ran placed =
-    grows-results t ran placed (last_of before (id_of placed)) (results_of placed.rule.name placed.rule.labels [] (vector_of [] placed.rule.expr ran.store t))
+    grows-results t ran placed (last_of before (id_of placed)) (results_of placed.rule.name placed.rule.labels [] (value_of (around [] ran.store t) placed.rule.expr))
 
 -- a rule that stored nothing yet has stored a first part
 pub nothing_stored : (t : Moment) (before : States) (ran : Ran) (placed : Placed) → AddsPrefix ran.store ran.store (stored (after_one t before ran placed))
@@ -45,35 +45,21 @@ after_all-append : (t : Moment) (before : States) (ran : Ran) (some rest : List 
 after_all-append t before ran [] rest = refl
 after_all-append t before ran (p ∷ some) rest = after_all-append t before (after_one t before ran p) some rest
 
-first_patterns : (some rest : List Placed) → HavePatternsIn (some ++ rest) → HavePatternsIn some
-first_patterns [] rest have = tt
-first_patterns (p ∷ some) rest have = (have.0, first_patterns some rest have.1)
-
-last_patterns : (some rest : List Placed) → HavePatternsIn (some ++ rest) → HavePatternsIn rest
-last_patterns [] rest have = have
-last_patterns (p ∷ some) rest have = last_patterns some rest have.1
-
 -- from a start some of all rules ran, and others are left
 pub record Runs (t : Moment) (before : States) (start ran : Ran) (all left : List Placed) : Type 0 where
   pub same : after_all t before start all ≡ after_all t before ran left
   pub grown : Grows start.store ran.store
-  pub patterns : HavePatternsIn left
 
 module _ (t : Moment) (before : States) where
-  pub runs-start : (start : Ran) (all : List Placed) → HavePatternsIn all → Runs t before start start all all
-  runs-start start all have = record { same = refl; grown = grows-itself start.store; patterns = have }
+  pub runs-start : (start : Ran) (all : List Placed) → Runs t before start start all all
+  runs-start start all = record { same = refl; grown = grows-itself start.store }
 
-  -- the next ones have their patterns
-  pub runs-next : (start ran : Ran) (all left some rest : List Placed) → Runs t before start ran all left → left ≡ some ++ rest → HavePatternsIn some
-  runs-next start ran all left some rest runs parts = first_patterns some rest (subst HavePatternsIn parts runs.patterns)
-
-  -- they ran
+  -- the next ones ran
   pub runs-step : (start ran now : Ran) (all left some rest : List Placed) → Runs t before start ran all left → left ≡ some ++ rest → now ≡ after_all t before ran some
       → Runs t before start now all rest
   runs-step start ran now all left some rest runs parts is = record {
     same = runs.same ∙ ap (after_all t before ran) parts ∙ after_all-append t before ran some rest ∙ ap (λ r. after_all t before r rest) (sym is);
     grown = grows-further start.store ran.store now.store runs.grown (subst (λ (r : Ran). Grows ran.store r.store) (sym is) (grows-all t before ran some));
-    patterns = last_patterns some rest (subst HavePatternsIn parts runs.patterns);
   }
 
   -- they were cut off

@@ -1,4 +1,3 @@
-pub mod Evaluated
 pub mod Recorded
 pub mod Rounds
 pub mod Running

@@ -1,10 +1,13 @@
--- What a recording rule makes of the elements of its expression's vector.
+-- What a recording rule makes of what its expression comes to.
 use Rattle.std.specs.Prelude.{ℕ, List, [], ◌∷◌, Option, Some, None, fold, if◌then◌else◌}
+use Rattle.std.specs.Option.{option_and_then}
 use Rattle.op_base.specs.Maps.{without_entry}
 use Rattle.op_base.specs.Labels.{Texts, labels_with}
 use Rattle.srv_store.specs.LabelMaps.{has_labels, with_value}
 use Rattle.srv_store.specs.Stores.{Vector}
-use Rattle.srv_rule.specs.Evaluated.{NAME}
+use Rattle.ql_call.specs.Elements.{NAME}
+use Rattle.ql_call.specs.declared.outcome.Outcome.{Outcome}
+use Rattle.ql_call.specs.declared.outcome.Outcome.TheVariants as outcome
 
 -- labels with others put over them; an empty value removes a label
 abbrev pub with_labels : Texts → Texts → Texts
@@ -24,6 +27,13 @@ gathered name labels force results (element ∷ elements) =
     then None
     else gathered name labels force (with_value results (recorded_labels name labels force element.0) element.1) elements
 
--- the results of a rule
-abbrev pub results_of : List ℕ → Texts → Texts → Vector → Option Vector
-results_of name labels force elements = gathered name labels force [] elements
+-- the elements of an outcome: a scalar is one without labels, and a failure has none
+abbrev pub elements_of : Outcome → Option Vector
+elements_of (outcome.Vector elements) = Some elements
+elements_of (outcome.Scalar n) = Some (([], n) ∷ [])
+elements_of (outcome.Clash these those) = None
+elements_of outcome.ZeroScalar = None
+
+-- the results of a rule, or none where it fails
+abbrev pub results_of : List ℕ → Texts → Texts → Outcome → Option Vector
+results_of name labels force given = option_and_then (gathered name labels force []) (elements_of given)

@@ -16,7 +16,7 @@ use Rattle.srv_store.specs.LabelMaps.{has_labels, labels_in}
 use Rattle.srv_store.specs.Stores.{Store, Vector, with_all}
 use Rattle.srv_rule.specs.declared.states.RuleId.{RuleId}
 use Rattle.srv_rule.specs.declared.view.FailedRule.{FailedRule}
-use Rattle.srv_rule.specs.Evaluated.{vector_of, AsksPatterns}
+use Rattle.ql_eval.specs.Values.{Around, value_of}
 use Rattle.srv_rule.specs.Recorded.{results_of}
 
 -- rules before one another: by the text of the object, the group, the place in it, and the name
@@ -122,10 +122,14 @@ abbrev pub after_results : Moment → Ran → Placed → Option (List Texts) →
 after_results t ran placed last None = after_failure ran placed last
 after_results t ran placed last (Some results) = after_success t ran placed (unwrap_or last []) results
 
+-- a store at a moment, beside ambient labels
+abbrev pub around : Texts → Store → Moment → Around
+around ambient store t = record { store = store; ambient = ambient; at = t }
+
 -- the next rule runs; before: the states that stood when the round began
 abbrev pub after_rule : Texts → Texts → Moment → States → Ran → Placed → Ran
 after_rule ambient force t before ran placed = after_results t ran placed (last_of before (id_of placed))
-    (results_of placed.rule.name placed.rule.labels force (vector_of ambient placed.rule.expr ran.store t))
+    (results_of placed.rule.name placed.rule.labels force (value_of (around ambient ran.store t) placed.rule.expr))
 
 -- rules run one after the other
 abbrev pub after_each : Texts → Texts → Moment → States → Ran → List Placed → Ran
@@ -153,8 +157,3 @@ without_gone t before ran = record {
 -- a round of the files at a moment
 abbrev pub round_of : List RuleFile → Texts → Texts → Moment → States → Store → Ran
 round_of files ambient force t before store = without_gone t before (after_rules files ambient force t before store)
-
--- each matcher of each rule that asks for a pattern has one
-abbrev pub HavePatternsIn : List Placed → Type 0
-HavePatternsIn [] = Unit {0}
-HavePatternsIn (placed ∷ rules) = AsksPatterns placed.rule.expr × HavePatternsIn rules

@@ -1,94 +1,45 @@
 // What a recording rule gives at a moment.
-ghost use Rattle.std.specs.Prelude.{◌≡◌, [], ◌∷◌, not, Ok, Some, true, fold, IfOk, OnOk, option_map};
+ghost use Rattle.std.specs.Prelude.{◌≡◌, [], ◌∷◌, not, Ok, true, fold, IfOk, OnOk};
 ghost use Rattle.op_base.specs.Labels.{labels_with};
 ghost use Rattle.srv_store.specs.LabelMaps.{has_labels, with_value};
-ghost use Rattle.srv_store.specs.Stores.{HavePatterns, IsTick};
-ghost use Rattle.srv_rule.specs.Evaluated as evaluated;
+ghost use Rattle.ql_eval.specs.Values.{value_of, whole};
 ghost use Rattle.srv_rule.specs.Recorded as spec;
 
 use cfg_types::Rule;
-use op_base::{Labels, List, MatchOp, Matcher, Moment, NoMemory, Tags, Text};
-use ql_tree::Expr;
+use op_base::{Labels, List, Moment, NoMemory, Tags};
+use ql_call::Outcome;
+use ql_eval::eval;
 use srv_store::{LabelMap, Store};
 use std::alloc::Global;
 
 const NAME: &str = "__name__";
 
-// The results of a rule, or none where two have equal label sets.
+// The results of a rule, or none where it fails: its expression does, or two results have equal label
+// sets.
 pub(crate) fn results_of(
     alloc: Global,
     store: &Store,
     rule: &Rule,
     t: Moment,
 ) -> Result<Option<LabelMap<i64>>, NoMemory>
-    requires patterns { evaluated.AsksPatterns rule.now.expr }
-    requires moment { IsTick t }
     ensures { IfOk result (λ results. results
-        ≡ spec.results_of rule.now.name rule.now.labels [] (evaluated.vector_of [] rule.now.expr store.now t)) }
+        ≡ spec.results_of rule.now.name rule.now.labels [] (value_of (whole store.now t) rule.now.expr)) }
 {
-    let elements = vector_of(alloc, store, &rule.expr, t)?;
-    gather(alloc, rule, elements.as_slice())
-}
-
-// No labels are ambient.
-fn vector_of(
-    alloc: Global,
-    store: &Store,
-    expr: &Expr,
-    t: Moment,
-) -> Result<List<(Labels, i64)>, NoMemory>
-    requires patterns { evaluated.AsksPatterns expr.now }
-    requires moment { IsTick t }
-    ensures { IfOk result (λ vector. vector ≡ evaluated.vector_of [] expr.now store.now t) }
-{
-    match expr {
-        Expr::Select {
-            name: Some(name),
-            matchers,
-            range: None,
-            offset: None,
-        } => named(alloc, store, name.as_str(), matchers.as_slice(), t),
-        _ => Ok(List::new(alloc)),
+    match eval(alloc, &rule.expr, store, t)? {
+        Outcome::Vector(elements) => gather(alloc, rule, elements.as_slice()),
+        Outcome::Scalar(number) => gather(alloc, rule, one(alloc, number)?.as_slice()),
+        Outcome::Clash(_, _) => Ok(None),
+        Outcome::ZeroScalar => Ok(None),
     }
 }
 
-fn named(
-    alloc: Global,
-    store: &Store,
-    name: &str,
-    matchers: &[Matcher],
-    t: Moment,
-) -> Result<List<(Labels, i64)>, NoMemory>
-    requires patterns { HavePatterns matchers.now }
-    requires moment { IsTick t }
-    ensures { IfOk result (λ vector. vector ≡ evaluated.named [] (Some name.now) matchers.now store.now t) }
+// A scalar counts as one element without labels.
+fn one(alloc: Global, number: i64) -> Result<List<(Labels, i64)>, NoMemory>
+    ensures { IfOk result (λ elements. elements ≡ ([], number) ∷ []) }
 {
-    let asked = matchers_of(alloc, name, matchers)?;
-    store.newest(alloc, &asked, t)
-}
-
-// No matcher is passed over.
-fn matchers_of(alloc: Global, name: &str, matchers: &[Matcher]) -> Result<List<Matcher>, NoMemory>
-    requires patterns { HavePatterns matchers.now }
-    ensures asked { IfOk result (λ asked. asked ≡ evaluated.matchers_of [] name.now matchers.now) }
-    ensures patterns { IfOk result (λ asked. HavePatterns asked) }
-{
-    let mut asked = List::new(alloc);
-    asked.push(name_matcher(alloc, name)?)?;
-    for matcher in matchers {
-        asked.push(matcher.clone()?)?;
-    }
-    Ok(asked)
-}
-
-fn name_matcher(alloc: Global, name: &str) -> Result<Matcher, NoMemory>
-    ensures { IfOk result (λ matcher. matcher ≡ evaluated.name_matcher name.now) }
-{
-    Ok(Matcher {
-        name: Text::from_str(alloc, NAME)?,
-        op: MatchOp::Eq,
-        value: Text::from_str(alloc, name)?,
-    })
+    let mut elements = List::new(alloc);
+    elements.push((Labels::new(alloc), number))?;
+    Ok(elements)
 }
 
 fn gather(

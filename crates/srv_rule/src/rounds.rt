@@ -1,7 +1,6 @@
 ghost use Rattle.std.specs.Prelude.{◌≡◌, [], ◌∷◌, map, unwrap_or, IfOk, OnOk, OnErr};
 ghost use Rattle.srv_store.specs.LabelMaps.{labels_in};
-ghost use Rattle.srv_store.specs.Stores.{IsTick, AddsPrefix};
-ghost use Rattle.srv_rule.specs.Evaluated.{AsksPatterns};
+ghost use Rattle.srv_store.specs.Stores.{AddsPrefix};
 ghost use Rattle.srv_rule.specs.Running.{placed_as, ran, after, succeeded};
 ghost use Rattle.srv_rule.specs.Rounds as spec;
 
@@ -38,8 +37,6 @@ pub fn round(
     states: &mut RuleStates,
     t: Moment,
 ) -> Result<RoundView, NoMemory>
-    requires patterns { spec.HavePatternsIn (spec.placed_of files.now) }
-    requires moment { IsTick t }
     ensures ok { IfOk result (λ view. spec.ran_of store.new states.new view.failed
         ≡ spec.round_of files.now [] [] t states.old store.old) }
     ensures err { OnErr result (AddsPrefix store.old store.new
@@ -63,8 +60,6 @@ pub fn next_round(
     states: &RuleStates,
     t: Moment,
 ) -> Result<(RuleStates, RoundView), NoMemory>
-    requires patterns { spec.HavePatternsIn (spec.placed_of files.now) }
-    requires moment { IsTick t }
     ensures ok { IfOk result (λ given. spec.ran_of store.new given.0 given.1.failed
         ≡ spec.round_of files.now [] [] t states.now store.old) }
     ensures err { OnErr result (AddsPrefix store.old store.new
@@ -91,8 +86,6 @@ fn run_files(
     files: &List<RuleFile>,
     t: Moment,
 ) -> Result<(), NoMemory>
-    requires patterns { spec.HavePatternsIn (spec.placed_of files.now) }
-    requires moment { IsTick t }
     ensures ok { OnOk result (ran store.new progress.new
         ≡ after t before.now (ran store.old progress.old) (spec.placed_of files.now)) }
     ensures err { OnErr result (AddsPrefix store.old store.new
@@ -112,8 +105,6 @@ fn run_file(
     file: &RuleFile,
     t: Moment,
 ) -> Result<(), NoMemory>
-    requires patterns { spec.HavePatternsIn (spec.placed_in file.now) }
-    requires moment { IsTick t }
     ensures ok { OnOk result (ran store.new progress.new
         ≡ after t before.now (ran store.old progress.old) (spec.placed_in file.now)) }
     ensures err { OnErr result (AddsPrefix store.old store.new
@@ -134,9 +125,6 @@ fn run_group(
     group: &Group,
     t: Moment,
 ) -> Result<(), NoMemory>
-    requires patterns { spec.HavePatternsIn
-        (spec.placed_from file.now group.now.name 0 group.now.rules) }
-    requires moment { IsTick t }
     ensures ok { OnOk result (ran store.new progress.new
         ≡ after t before.now (ran store.old progress.old)
         (spec.placed_from file.now group.now.name 0 group.now.rules)) }
@@ -166,8 +154,6 @@ fn run_rule(
     place: &Place<'_>,
     t: Moment,
 ) -> Result<(), NoMemory>
-    requires patterns { AsksPatterns place.now.rule.now.expr }
-    requires moment { IsTick t }
     ensures ok { OnOk result (ran store.new progress.new
         ≡ after t before.now (ran store.old progress.old) (placed_as place.entry.now ∷ [])) }
     ensures err { OnErr result (AddsPrefix store.old store.new

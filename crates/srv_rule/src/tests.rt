@@ -1,7 +1,3 @@
-ghost use Rattle.std.specs.Prelude.{◌≡◌, [], ◌∷◌, IfOk};
-ghost use Rattle.srv_rule.specs.Evaluated.{AsksPatterns};
-ghost use Rattle.srv_rule.specs.Rounds.{HavePatternsIn, placed_of};
-
 use crate::{RuleStates, round};
 use cfg_types::{Group, Rule, RuleFile};
 use op_base::{Labels, List, Moment, NoMemory, Tags, Text};
@@ -10,18 +6,14 @@ use srv_store::{Entry, Store};
 use std::alloc::Global;
 use std::test::Fail;
 
-fn one<T: Drop>(alloc: Global, item: T) -> Result<List<T>, NoMemory>
-    ensures { IfOk result (λ items. items ≡ item ∷ []) }
-{
+fn one<T: Drop>(alloc: Global, item: T) -> Result<List<T>, NoMemory> {
     let mut items = List::new(alloc);
     items.push(item)?;
     Ok(items)
 }
 
 // `recorded` over `up`, with the label that is given.
-fn rule(alloc: Global, label: &str) -> Result<Rule, NoMemory>
-    ensures { IfOk result (λ rule. AsksPatterns rule.expr) }
-{
+fn rule(alloc: Global, label: &str) -> Result<Rule, NoMemory> {
     let mut labels = Tags::new(alloc);
     labels.set(label, "t")?;
     Ok(Rule {
@@ -36,9 +28,7 @@ fn rule(alloc: Global, label: &str) -> Result<Rule, NoMemory>
     })
 }
 
-fn files(alloc: Global, label: &str) -> Result<List<RuleFile>, NoMemory>
-    ensures { IfOk result (λ files. HavePatternsIn (placed_of files)) }
-{
+fn files(alloc: Global, label: &str) -> Result<List<RuleFile>, NoMemory> {
     let group = Group {
         name: Text::from_str(alloc, "g")?,
         rules: one(alloc, rule(alloc, label)?)?,

@@ -12,7 +12,6 @@ use Rattle.srv_scrape.specs.declared.pages.Sample.{Sample}
 use Rattle.srv_scrape.specs.Pages.{Pages}
 use Rattle.srv_scrape.specs.Ticks.{HavePatterns, scraped_entries}
 use Rattle.srv_store.specs.Stores.{IsTick, AddsPrefix}
-use Rattle.srv_rule.specs.Rounds.{HavePatternsIn, placed_of}
 use Rattle.srv_run.specs.declared.event.Event.{Event}
 use Rattle.srv_run.specs.declared.event.Event.TheVariants.{Known, Page, Tick}
 use Rattle.srv_run.specs.Memories.{Memory, Ticked, nothing_left, ticked}
@@ -89,9 +88,9 @@ no_config = record {
 abbrev pub new_serving : Serving
 new_serving = record { config = no_config; served = new_served }
 
--- what can be run: each step and each matcher that asks for a pattern has one
+-- what can be run: each step that asks for a pattern has one
 abbrev pub CanRun : Config → Type 0
-CanRun config = HavePatterns config.prometheus.jobs × HavePatternsIn (placed_of config.rules)
+CanRun config = HavePatterns config.prometheus.jobs
 
 -- what an event has to be: a namespace's name is well formed, a tick's moment from 0 to 2^53
 abbrev pub IsFit : Event → Type 0

@@ -1,6 +1,5 @@
 ghost use Rattle.std.specs.Prelude.{◌≡◌, ◌∷◌, [], IfOk};
 ghost use Rattle.srv_scrape.specs.Ticks.{HavePatterns};
-ghost use Rattle.srv_rule.specs.Rounds.{HavePatternsIn, placed_of};
 ghost use Rattle.srv_run.specs.Served.{CanRun, IsFit};
 
 use crate::{Event, EventFault, Server};
@@ -48,9 +47,7 @@ fn jobs(alloc: Global) -> Result<List<Job>, NoMemory>
 }
 
 // A rule that records `up` for the namespace `b`.
-fn files(alloc: Global) -> Result<List<RuleFile>, NoMemory>
-    ensures { IfOk result (λ files. HavePatternsIn (placed_of files)) }
-{
+fn files(alloc: Global) -> Result<List<RuleFile>, NoMemory> {
     let rule = Rule {
         name: Text::from_str(alloc, "recorded")?,
         expr: Expr::Select {

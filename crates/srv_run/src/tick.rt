@@ -1,5 +1,5 @@
 ghost use Rattle.std.specs.Prelude.{◌≡◌, drop, IfOk, OnOk, OnErr};
-ghost use Rattle.srv_store.specs.Stores.{IsTick, AddsPrefix, with_all};
+ghost use Rattle.srv_store.specs.Stores.{AddsPrefix, with_all};
 ghost use Rattle.srv_scrape.specs.Ticks as scrapes;
 ghost use Rattle.srv_run.specs.Served.{CanRun};
 ghost use Rattle.srv_run.specs.Ticking.{left, ticked_as, tick_over};
@@ -22,8 +22,7 @@ pub fn run_tick(
     states: &RuleStates,
     t: Moment,
 ) -> Result<(List<Labels>, RuleStates, List<FailedRule>), NoMemory>
-    requires config { CanRun config.now }
-    requires moment { IsTick t }
+    requires { CanRun config.now }
     ensures ok { IfOk result (λ given. ticked_as store.old (left store.new given.0 given.1) given.2
         ≡ tick_over config.now pages.now (left store.old scraped.now states.now) t) }
     ensures err { OnErr result (AddsPrefix store.old store.new

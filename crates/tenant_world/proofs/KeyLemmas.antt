@@ -1,46 +1,16 @@
--- Maps by keys: the keys that pass a test, and orders whose ties are equal.
+-- Maps by keys: the keys that pass a test.
 use Rattle.std.proofs.Common.{◌≡◌, ℕ, Bool, true, false, cond, T, List, Option, None, Some, refl, sym, ap, ◌∙◌}
 use mathlib.Core.Bool.{true≢false}
 use Rattle.std.specs.declared.cmp.Ordering.{Ordering}
 use Rattle.std.specs.declared.cmp.Ordering.TheVariants.{Less, Equal, Greater}
-use Rattle.std.specs.Ordering.{nat_cmp, is_eq, eq_by_cmp, ordering_then}
-use Rattle.std.specs.Cmp.{IsTotalOrder, then_total, on_total}
-use Rattle.std.specs.Cmp.Lexicographic.{slice_cmp, lists_total, nat_list_cmp_total}
-use Rattle.std.specs.FinMap.{slice_cmp-IsAntisymmetric, nat_cmp-IsAntisymmetric}
+use Rattle.std.specs.Ordering.{is_eq, eq_by_cmp}
+use Rattle.std.specs.Cmp.{IsTotalOrder}
 use Rattle.std.specs.FinMap.Entries.{find, put, where_key, is_sorted, is_sorted-put, is_sorted-where_key, find-put, find-where_key, same_entries}
-use Rattle.op_base.specs.Labels.{Texts, entry_cmp, labels_cmp}
 
 equal : (r : Ordering) → is_eq r ≡ true → r ≡ Equal
 equal Less h = absurd (true≢false (sym h))
 equal Equal h = refl
 equal Greater h = absurd (true≢false (sym h))
-
-pub first_equal : (r s : Ordering) → ordering_then r s ≡ Equal → r ≡ Equal
-first_equal Less s h = h
-first_equal Equal s h = refl
-first_equal Greater s h = h
-
-pub second_equal : (r s : Ordering) → ordering_then r s ≡ Equal → s ≡ Equal
-second_equal Less s h = absurd (true≢false (sym (ap is_eq h)))
-second_equal Equal s h = h
-second_equal Greater s h = absurd (true≢false (sym (ap is_eq h)))
-
--- texts that tie are equal
-pub text_same : (x y : List ℕ) → slice_cmp nat_cmp x y ≡ Equal → x ≡ y
-text_same x y = slice_cmp-IsAntisymmetric nat_cmp-IsAntisymmetric x y
-
-entry_same : (x y : List ℕ × List ℕ) → entry_cmp x y ≡ Equal → x ≡ y
-entry_same x y h = λ i. (
-  text_same x.0 y.0 (first_equal (slice_cmp nat_cmp x.0 y.0) (slice_cmp nat_cmp x.1 y.1) h) i,
-  text_same x.1 y.1 (second_equal (slice_cmp nat_cmp x.0 y.0) (slice_cmp nat_cmp x.1 y.1) h) i,
-)
-
--- label sets that tie are equal
-pub labels_same : (x y : Texts) → labels_cmp x y ≡ Equal → x ≡ y
-labels_same x y = slice_cmp-IsAntisymmetric entry_same x y
-
-pub labels_total : IsTotalOrder labels_cmp
-labels_total = lists_total (then_total (on_total (λ (entry : List ℕ × List ℕ). entry.0) nat_list_cmp_total) (on_total (λ (entry : List ℕ × List ℕ). entry.1) nat_list_cmp_total))
 
 swapped : {A : Type 0} (a b : Bool) (x y : Option A) → (b ≡ true → a ≡ true) → cond a (cond b x y) None ≡ cond b x (cond a y None)
 swapped true true x y h = refl

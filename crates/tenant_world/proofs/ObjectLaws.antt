@@ -10,7 +10,7 @@ use Rattle.std.specs.FinMap.Entries.{by_order, put, is_sorted, below_all, is_sor
 use Rattle.op_base.specs.Names.{is_namespace}
 use Rattle.op_base.specs.Maps.{Map, value_at, values_of, with_entry, with_inner}
 use Rattle.op_thin.specs.Objects.{inner_at, all_of}
-use Rattle.tenant_world.proofs.KeyLemmas.{text_same}
+use Rattle.srv_store.proofs.OrderLemmas.{text_same}
 
 abbrev by_bytes : List ℕ → List ℕ → Ordering
 by_bytes = slice_cmp nat_cmp

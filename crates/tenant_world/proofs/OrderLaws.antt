@@ -11,7 +11,8 @@ use Rattle.cfg_types.specs.declared.config.RuleFile.{RuleFile}
 use Rattle.cfg_types.specs.Written.{file_text}
 use Rattle.op_thin.specs.declared.recording.Recording.{Recording}
 use Rattle.op_thin.specs.FileOrder.{in_order}
-use Rattle.tenant_world.proofs.KeyLemmas.{text_same, where_key-put_kept, where_key-put_dropped}
+use Rattle.srv_store.proofs.OrderLemmas.{text_same}
+use Rattle.tenant_world.proofs.KeyLemmas.{where_key-put_kept, where_key-put_dropped}
 use Rattle.tenant_world.proofs.RulesLaws.{is_of}
 
 abbrev by_bytes : List ℕ → List ℕ → Ordering

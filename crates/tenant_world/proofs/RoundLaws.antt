@@ -21,7 +21,8 @@ use Rattle.srv_run.specs.Shares.{failed_of}
 use Rattle.op_thin.specs.declared.recording.Recording.{Recording}
 use Rattle.op_thin.specs.Compiled.{config_rule, file_of}
 use Rattle.tenant_world.specs.Tenants.{written_rule, written_file}
-use Rattle.tenant_world.proofs.KeyLemmas.{first_equal, second_equal, text_same, where_key-put_kept, where_key-put_dropped}
+use Rattle.srv_store.proofs.OrderLemmas.{first_equal, second_equal, text_same}
+use Rattle.tenant_world.proofs.KeyLemmas.{where_key-put_kept, where_key-put_dropped}
 use Rattle.tenant_world.proofs.ResultLaws.{Own, same_name, others_labels}
 use Rattle.tenant_world.proofs.StoreLaws.{of-append, with_all-of}
 use Rattle.tenant_world.proofs.TickLaws.{stale_at, stale-of}

@@ -9,29 +9,29 @@ use Rattle.cfg_types.specs.declared.config.RuleFile.{RuleFile}
 use Rattle.srv_store.specs.LabelMaps.{labels_in}
 use Rattle.srv_store.specs.Stores.{Store, Vector, with_all, fresh, of_namespace}
 use Rattle.srv_rule.specs.declared.states.RuleId.{RuleId}
-use Rattle.srv_rule.specs.Evaluated.{vector_of}
+use Rattle.ql_eval.specs.Values.{value_of}
 use Rattle.srv_rule.specs.Recorded.{results_of}
-use Rattle.srv_rule.specs.Rounds.{States, Ran, Placed, id_cmp, id_of, last_of, placed_in, placed_of, stale_entries, value_entries, after_results, after_rule, after_rules, gone, gone_entries, without_gone, round_of}
+use Rattle.srv_rule.specs.Rounds.{States, Ran, around, Placed, id_cmp, id_of, last_of, placed_in, placed_of, stale_entries, value_entries, after_results, after_rule, after_rules, gone, gone_entries, without_gone, round_of}
 use Rattle.op_thin.specs.declared.recording.Recording.{Recording}
 use Rattle.op_thin.specs.Compiled.{enforced_expr, file_of, ENFORCED_LABEL}
 use Rattle.tenant_world.specs.Tenants.{home_label, written_rule, written_file}
 use Rattle.tenant_world.proofs.KeyLemmas.{alike}
-use Rattle.tenant_world.proofs.ResultLaws.{Own, same_name, vector-of, gathered-of, gathered-own}
+use Rattle.tenant_world.proofs.ResultLaws.{Own, same_name, value-of-rule, results-of, results-own}
 use Rattle.tenant_world.proofs.RoundLaws.{id_total, id_same, enforced_placed, written_placed, of_home, states_of, ran_of, OwnSets, OwnStates, own-find, own-state, own-labels, stale-seen, stale-unseen, own-results, other-results}
 use Rattle.tenant_world.proofs.StoreLaws.{of-append, with_all-of}
 
 -- what a rule of the configuration makes of the store, and what the rule as it is written makes of it
 abbrev given : Recording → Store → Moment → Option Vector
-given r store t = results_of r.record_name ((ENFORCED_LABEL, r.namespace) ∷ []) [] (vector_of [] (enforced_expr r) store t)
+given r store t = results_of r.record_name ((ENFORCED_LABEL, r.namespace) ∷ []) [] (value_of (around [] store t) (enforced_expr r))
 
 given-of : (r : Recording) (store : Store) (t : Moment)
-    → given r store t ≡ results_of r.record_name [] (home_label r.namespace) (vector_of (home_label r.namespace) (written_rule r).expr (of_namespace r.namespace store) t)
+    → given r store t ≡ results_of r.record_name [] (home_label r.namespace) (value_of (around (home_label r.namespace) (of_namespace r.namespace store) t) (written_rule r).expr)
 given-of r store t =
-    gathered-of r.namespace r.record_name [] (vector_of [] (enforced_expr r) store t)
-    ∙ ap (results_of r.record_name [] (home_label r.namespace)) (vector-of r store t)
+    results-of r.namespace r.record_name (value_of (around [] store t) (enforced_expr r))
+    ∙ ap (results_of r.record_name [] (home_label r.namespace)) (value-of-rule r store t)
 
 given-own : (r : Recording) (store : Store) (t : Moment) → 0 < length r.namespace → IfSome (given r store t) (Own r.namespace)
-given-own r store t some = gathered-own r.namespace r.record_name [] (vector_of [] (enforced_expr r) store t) some tt
+given-own r store t some = results-own r.namespace r.record_name (value_of (around [] store t) (enforced_expr r)) some
 
 abbrev server_rule : Moment → States → Ran → Recording → Ran
 server_rule t before ran r = after_rule [] [] t before ran (enforced_placed r)
@@ -49,7 +49,7 @@ own-rule r t before ran some states h =
     own-results r t ran (last_of before id) (given r ran.store t) (given-own r ran.store t some) (own-find before id states) h
     ∙ ap (after_results t (ran_of r.namespace ran) (written_placed r) (last_of before id)) (given-of r ran.store t)
     ∙ ap (λ last. after_results t (ran_of r.namespace ran) (written_placed r) last
-    (results_of r.record_name [] (home_label r.namespace) (vector_of (home_label r.namespace) (written_rule r).expr (of_namespace r.namespace ran.store) t)))
+    (results_of r.record_name [] (home_label r.namespace) (value_of (around (home_label r.namespace) (of_namespace r.namespace ran.store) t) (written_rule r).expr)))
     (sym (last-of r.namespace before id (same_name r.namespace)))
 
 other-rule : (n : List ℕ) (r : Recording) (t : Moment) (before : States) (ran : Ran) → pointwise nat_eq n r.namespace ≡ false → 0 < length r.namespace → OwnStates before → T (is_sorted id_cmp ran.states)
@@ -198,7 +198,7 @@ rules-add ambient force t before ran [] = ([], sym (append-nil ran.store))
 rules-add ambient force t before ran (p ∷ rules) =
     let next = after_rule ambient force t before ran p in
     adds-more ran.store next.store (fold (after_rule ambient force t before) next rules).store
-    (results-add t ran p (last_of before (id_of p)) (results_of p.rule.name p.rule.labels force (vector_of ambient p.rule.expr ran.store t)))
+    (results-add t ran p (last_of before (id_of p)) (results_of p.rule.name p.rule.labels force (value_of (around ambient ran.store t) p.rule.expr)))
     (rules-add ambient force t before next rules)
 
 pub round-adds : (files : List RuleFile) (ambient force : Texts) (t : Moment) (before : States) (store : Store) → Adds store (round_of files ambient force t before store).store

@@ -7,7 +7,8 @@ use Rattle.srv_store.specs.declared.entry.Entry.{Entry}
 use Rattle.srv_store.specs.LabelMaps.{LabelMap, has_labels, labels_in, with_value}
 use Rattle.srv_store.specs.Stores.{owns, of_namespace}
 use Rattle.srv_scrape.specs.Ticks.{by_labels, label_sets, markers, tick_entries}
-use Rattle.tenant_world.proofs.KeyLemmas.{labels_same, labels_total, where_key-put_kept, where_key-put_dropped, alike}
+use Rattle.srv_store.proofs.OrderLemmas.{labels_same, labels_total}
+use Rattle.tenant_world.proofs.KeyLemmas.{where_key-put_kept, where_key-put_dropped, alike}
 use Rattle.tenant_world.proofs.StoreLaws.{of-append}
 
 abbrev pub stale_at : Moment → Texts → Entry

@@ -4,7 +4,6 @@ use Rattle.op_report.specs.ReadBack.{report_bytes}
 use Rattle.srv_run.specs.Served.{Serving, new_served}
 use Rattle.op_thin.specs.Objects.{Present}
 use Rattle.tenant_world.specs.Runs.{run}
-use Rattle.op_run.specs.declared.command.Command.TheVariants.{Compile}
 use Rattle.op_run.specs.Inputs.{file_events}
 use Rattle.op_run.specs.Outputs.{reports_of}
 use Rattle.op_run.proofs.ReportLemmas.{all_are_prefix}
@@ -14,7 +13,7 @@ pub returns-in-Ok-report_files-clause-stopped_lines : goal.returns-in-Ok-report_
 returns-in-Ok-report_files-clause-stopped_lines g c =
     all_are_prefix (g.E.Sink.taken c.args.err.now) (g.E.Sink.taken c.report_files.new.sink) (report_bytes (reports_of c.args.files.now))
     (subst (λ (objects : Present). Appends (g.E.Sink.taken c.args.err.now) (g.E.Sink.taken c.report_files.new.sink)
-    (report_bytes (run (record { objects = objects; served = new_served }) (file_events Compile c.args.files.now)))) c.new-objects.ensures
+    (report_bytes (run (record { objects = objects; served = new_served }) (file_events c.args.files.now)))) c.new-objects.ensures
     (subst (λ (server : Serving). Appends (g.E.Sink.taken c.args.err.now) (g.E.Sink.taken c.report_files.new.sink)
-    (report_bytes (run (record { objects = c.new-objects.result; served = server.served }) (file_events Compile c.args.files.now)))) c.in-Ok.ensures
+    (report_bytes (run (record { objects = c.new-objects.result; served = server.served }) (file_events c.args.files.now)))) c.in-Ok.ensures
     c.in-Ok-report_files.ensures.lines))

@@ -8,7 +8,6 @@ use Rattle.op_report.specs.ReadBack.{report_bytes}
 use Rattle.cfg_types.specs.Written.{config_text}
 use Rattle.op_thin.specs.Compiled.{config_of}
 use Rattle.tenant_world.specs.Runs.{World, run, left_by}
-use Rattle.op_run.specs.declared.command.Command.TheVariants.{Run}
 use Rattle.op_run.specs.Inputs.{file_events}
 use Rattle.op_run.specs.Lines.{all_said}
 use Rattle.op_run.specs.Outputs.{run_reports, run_text}
@@ -25,9 +24,9 @@ returns-in-Ok-run_configured-clause-text g c =
     ++ (config_text (config_of c.report_files.new.objects) ++ NEWLINE ∷ [])))
     (λ bytes after. Appends (g.O.Sink.taken c.args.out.now) (g.O.Sink.taken c.run_configured.new.out) (run_text c.args.files.now bytes))
     (λ bytes after second. wrote_run c.args.files.now bytes c.report_files.new.objects c.report_files.new.server.served
-    (c.in-Ok-report_files.ensures.world ∙ ap (λ (w : World). left_by w (file_events Run c.args.files.now)) start)
+    (c.in-Ok-report_files.ensures.world ∙ ap (λ (w : World). left_by w (file_events c.args.files.now)) start)
     (g.O.Sink.taken c.args.out.now) (g.O.Sink.taken c.report_files.new.sink) (g.O.Sink.taken c.run_configured.new.out)
-    (subst (λ (w : World). Appends (g.O.Sink.taken c.args.out.now) (g.O.Sink.taken c.report_files.new.sink) (report_bytes (run w (file_events Run c.args.files.now))))
+    (subst (λ (w : World). Appends (g.O.Sink.taken c.args.out.now) (g.O.Sink.taken c.report_files.new.sink) (report_bytes (run w (file_events c.args.files.now))))
     start c.in-Ok-report_files.ensures.lines)
     second)
     c.in-Ok-run_configured.ensures.text
@@ -40,9 +39,9 @@ returns-in-Ok-run_configured-clause-good g c =
     ≡ all_well (all_said (config_of c.report_files.new.objects) c.report_files.new.server.served 0 (shown_lines bytes)))
     (λ bytes after. c.both.result ≡ all_well (run_reports c.args.files.now bytes))
     (λ bytes after well. well_run c.args.files.now bytes c.report_files.new.objects c.report_files.new.server.served
-    (c.in-Ok-report_files.ensures.world ∙ ap (λ (w : World). left_by w (file_events Run c.args.files.now)) start)
+    (c.in-Ok-report_files.ensures.world ∙ ap (λ (w : World). left_by w (file_events c.args.files.now)) start)
     c.in-Ok-report_files.good c.in-Ok-run_configured.well c.both.result
-    (c.in-Ok-report_files.ensures.good ∙ ap (λ (w : World). all_well (run w (file_events Run c.args.files.now))) start) well c.both.ensures)
+    (c.in-Ok-report_files.ensures.good ∙ ap (λ (w : World). all_well (run w (file_events c.args.files.now))) start) well c.both.ensures)
     c.in-Ok-run_configured.ensures.good
 
 pub returns-in-Err-run_configured-clause-stopped : goal.returns-in-Err-run_configured-clause-stopped
@@ -54,9 +53,9 @@ returns-in-Err-run_configured-clause-stopped g c =
     ++ (config_text (config_of c.report_files.new.objects) ++ NEWLINE ∷ [])))
     (λ bytes after. AppendsPrefix (g.O.Sink.taken c.args.out.now) (g.O.Sink.taken c.run_configured.new.out) (run_text c.args.files.now bytes))
     (λ bytes after part. wrote_part c.args.files.now bytes c.report_files.new.objects c.report_files.new.server.served
-    (c.in-Ok-report_files.ensures.world ∙ ap (λ (w : World). left_by w (file_events Run c.args.files.now)) start)
+    (c.in-Ok-report_files.ensures.world ∙ ap (λ (w : World). left_by w (file_events c.args.files.now)) start)
     (g.O.Sink.taken c.args.out.now) (g.O.Sink.taken c.report_files.new.sink) (g.O.Sink.taken c.run_configured.new.out)
-    (subst (λ (w : World). Appends (g.O.Sink.taken c.args.out.now) (g.O.Sink.taken c.report_files.new.sink) (report_bytes (run w (file_events Run c.args.files.now))))
+    (subst (λ (w : World). Appends (g.O.Sink.taken c.args.out.now) (g.O.Sink.taken c.report_files.new.sink) (report_bytes (run w (file_events c.args.files.now))))
     start c.in-Ok-report_files.ensures.lines)
     part)
     c.in-Err-run_configured.ensures.stopped
@@ -67,5 +66,5 @@ returns-in-Err-report_files-clause-stopped g c =
     told_same (g.S.Source.left c.args.input.now)
     (λ bytes after. AppendsPrefix (g.O.Sink.taken c.args.out.now) (g.O.Sink.taken c.report_files.new.sink) (run_text c.args.files.now bytes))
     (λ bytes. wrote_some c.args.files.now bytes (g.O.Sink.taken c.args.out.now) (g.O.Sink.taken c.report_files.new.sink)
-    (subst (λ (w : World). AppendsPrefix (g.O.Sink.taken c.args.out.now) (g.O.Sink.taken c.report_files.new.sink) (report_bytes (run w (file_events Run c.args.files.now))))
+    (subst (λ (w : World). AppendsPrefix (g.O.Sink.taken c.args.out.now) (g.O.Sink.taken c.report_files.new.sink) (report_bytes (run w (file_events c.args.files.now))))
     start c.in-Err-report_files.ensures.prefix))

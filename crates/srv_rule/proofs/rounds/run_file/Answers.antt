@@ -1,11 +1,7 @@
 -- The next group runs, or is cut off.
 use Rattle.srv_rule.specs.Rounds.{placed_from}
-use Rattle.srv_rule.proofs.RunLemmas.{runs-next, runs-step, runs-cut, groups-left, on_err_anyway}
+use Rattle.srv_rule.proofs.RunLemmas.{runs-step, runs-cut, groups-left, on_err_anyway}
 use Rattle.srv_rule.proofs.rounds.run_file.Goals as goal
-
-pub run_group-requires-clause-patterns : goal.run_group-requires-clause-patterns
-run_group-requires-clause-patterns c = runs-next c.args.t c.args.before.now _ _ _ _ _ _ c.loop-group.invariant
-    (groups-left c.args.file.now c.args.file.now.groups _ _ _ c.as_slice-group-items.ensures c.loop-group-test.true c.group-item.is)
 
 pub returns-in_err-run_group-clause-err : goal.returns-in_err-run_group-clause-err
 returns-in_err-run_group-clause-err c = on_err_anyway c.from_residual.result

@@ -1,11 +1,7 @@
 -- The next file's rules run, or are cut off.
 use Rattle.srv_rule.specs.Rounds.{placed_in}
-use Rattle.srv_rule.proofs.RunLemmas.{runs-next, runs-step, runs-cut, files-left, on_err_anyway}
+use Rattle.srv_rule.proofs.RunLemmas.{runs-step, runs-cut, files-left, on_err_anyway}
 use Rattle.srv_rule.proofs.rounds.run_files.Goals as goal
-
-pub run_file-requires-clause-patterns : goal.run_file-requires-clause-patterns
-run_file-requires-clause-patterns c = runs-next c.args.t c.args.before.now _ _ _ _ _ _ c.loop-file.invariant
-    (files-left c.args.files.now _ _ _ c.as_slice-file-items.ensures c.loop-file-test.true c.file-item.is)
 
 pub returns-in_err-run_file-clause-err : goal.returns-in_err-run_file-clause-err
 returns-in_err-run_file-clause-err c = on_err_anyway c.from_residual.result
