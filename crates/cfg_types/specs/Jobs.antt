@@ -11,9 +11,11 @@ use Rattle.cfg_types.specs.Texts.{labels_field, list_json, span_json}
 abbrev pub static_json : StaticConfig → Json
 static_json config = object_of (labels_field config.labels ++ (codes "targets", list_json config.targets) ∷ [])
 
+-- the fields of a job up to its name
 abbrev pub name_fields : Job → List (List ℕ × Json)
 name_fields job = (codes "honor_labels", flag job.honor_labels) ∷ (codes "job_name", text job.job_name) ∷ []
 
+-- the fields of a job from its scheme on
 abbrev pub scrape_fields : Job → List (List ℕ × Json)
 scrape_fields job =
     (codes "scheme", text job.scheme)

@@ -8,9 +8,11 @@ use Rattle.op_relabel.specs.declared.step.Step.{Step}
 use Rattle.op_relabel.specs.Steps.{default_separator, default_pattern, default_replacement, default_modulus}
 use Rattle.cfg_types.specs.Texts.{list_field, text_unless}
 
+-- how an action is written
 abbrev pub action_text : Action → List ℕ
 action_text Replace = codes "replace"
 
+-- the field `modulus`, which isn't written where it is the default
 abbrev pub modulus_field : ℕ → List (List ℕ × Json)
 modulus_field modulus = if modulus == default_modulus then [] else (codes "modulus", whole (pos modulus)) ∷ []
 

@@ -11,6 +11,7 @@ use Rattle.std.specs.FinMap as finite
 use Rattle.std.specs.FinMap.Entries.{where_key}
 use Rattle.std.specs.List.Sorted.{IsStrictlySortedBy}
 
+-- entries of a name and a value; `IsMap` says that the names rise
 abbrev pub Map : Type 0 → Type 0
 Map X = List (List ℕ × X)
 

@@ -4,15 +4,19 @@ use Rattle.std.specs.Prelude.{ℕ, Bool, false, List, ◌-◌, ◌==◌, ◌&&�
 use Rattle.std.specs.Option.{option_map_or}
 use Rattle.std.specs.List.{list_all, slice_split}
 
+-- a to z
 abbrev pub is_lower : ℕ → Bool
 is_lower b = nat_le 97 b && nat_le b 122
 
+-- A to Z
 abbrev pub is_upper : ℕ → Bool
 is_upper b = nat_le 65 b && nat_le b 90
 
+-- 0 to 9
 abbrev pub is_digit : ℕ → Bool
 is_digit b = nat_le 48 b && nat_le b 57
 
+-- a lower-case letter or a digit
 abbrev pub is_lower_or_digit : ℕ → Bool
 is_lower_or_digit b = is_lower b || is_digit b
 
@@ -30,6 +34,7 @@ is_part text =
     passes_at is_lower_or_digit text 0 && passes_at is_lower_or_digit text (length text - 1)
     && list_all is_part_byte text
 
+-- a dot
 abbrev pub is_dot : ℕ → Bool
 is_dot b = b == 46
 
@@ -45,6 +50,7 @@ is_name text = nat_le (length text) 253 && list_all is_part (slice_split is_dot 
 abbrev pub is_label_start : ℕ → Bool
 is_label_start b = is_lower b || is_upper b || b == 95
 
+-- a byte of a label name behind its first
 abbrev pub is_label_byte : ℕ → Bool
 is_label_byte b = is_label_start b || is_digit b
 
@@ -52,9 +58,11 @@ is_label_byte b = is_label_start b || is_digit b
 abbrev pub is_label_name : List ℕ → Bool
 is_label_name text = passes_at is_label_start text 0 && list_all is_label_byte text
 
+-- a first byte of a metric name: one of a label name, or a colon
 abbrev pub is_metric_start : ℕ → Bool
 is_metric_start b = is_label_start b || b == 58
 
+-- a byte of a metric name behind its first
 abbrev pub is_metric_byte : ℕ → Bool
 is_metric_byte b = is_label_byte b || b == 58
 

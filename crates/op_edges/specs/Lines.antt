@@ -4,6 +4,7 @@ use Rattle.op_base.specs.declared.memory.NoMemory.{NoMemory}
 use Rattle.op_edges.specs.declared.lines.Line.{Line}
 use Rattle.op_edges.specs.declared.lines.Line.TheVariants.{Whole, Long, End, Fault, Limit}
 
+-- the byte that ends a line
 abbrev pub newline : ℕ
 newline = 10
 
@@ -29,6 +30,7 @@ lines_of (b ∷ bytes) = if b == newline then [] ∷ lines_of bytes else onto b 
 abbrev pub shown_as : ℕ → List ℕ → Line
 shown_as size line = if nat_lt most_line size then Long else Whole line
 
+-- what the reader answers of a line: the line, or that it is too long
 abbrev pub shown : List ℕ → Line
 shown line = shown_as (length line) line
 

@@ -54,6 +54,7 @@ abbrev pub elements_of : List Json → Elements
 elements_of [] = none
 elements_of (j ∷ js) = element j (elements_of js)
 
+-- an array of these values
 abbrev pub array_of : List Json → Json
 array_of js = array (elements_of js)
 
@@ -62,6 +63,7 @@ abbrev pub fields_of : List (List ℕ × Json) → Fields
 fields_of [] = no_fields
 fields_of (f ∷ fs) = field f.0 f.1 (fields_of fs)
 
+-- an object of these fields
 abbrev pub object_of : List (List ℕ × Json) → Json
 object_of fields = object (fields_of fields)
 

@@ -35,6 +35,7 @@ replaced step labels = with_expanded labels step.target (pattern_expands step.pa
 abbrev pub acted : Action → Step → Texts → Option Texts
 acted Replace step labels = Some (replaced step labels)
 
+-- the labels after a step, by its action
 abbrev pub after_step : Step → Texts → Option Texts
 after_step step labels = acted step.action step labels
 

@@ -4,15 +4,19 @@ use Rattle.std.specs.Prelude.{ℕ, List, [], ◌∷◌, codes}
 use Rattle.op_relabel.specs.declared.step.Step.{Step}
 use Rattle.op_relabel.specs.declared.step.Action.TheVariants.{Replace}
 
+-- what stands between the values of several source labels
 abbrev pub default_separator : List ℕ
 default_separator = codes ";"
 
+-- the pattern that every value matches, which captures all of it
 abbrev pub default_pattern : List ℕ
 default_pattern = codes "(.*)"
 
+-- what the default pattern captured
 abbrev pub default_replacement : List ℕ
 default_replacement = codes "$1"
 
+-- no modulus
 abbrev pub default_modulus : ℕ
 default_modulus = 0
 

@@ -30,6 +30,7 @@ abbrev pub own_fields : Bool → List ℕ → List ℕ → List Also → List (L
 own_fields deleted key answer also =
     (codes "also", array_of (map also_json also)) ∷ (codes "answer", text answer) ∷ (change_word deleted, text key) ∷ []
 
+-- the value that a line holds, by what it reports
 abbrev pub view_json : View → Json
 -- {"also":[..],"answer":ANSWER,"path":PATH,"put":KEY,"rule":RULE}
 view_json (Own deleted key answer rule path also) = object_of
@@ -61,12 +62,15 @@ view_json (NotYetLine line) = object_of ((codes "bad", text (codes "NotYet")) �
 view_json (NotYetFile file item) = object_of
     ((codes "bad", text (codes "NotYet")) ∷ (codes "file", text file) ∷ (codes "item", whole (pos item)) ∷ [])
 
+-- what stands behind the addressee of a line
 abbrev pub TAB : ℕ
 TAB = 9
 
+-- the byte that ends a line
 abbrev pub NEWLINE : ℕ
 NEWLINE = 10
 
+-- a line: its addressee, a tab, the value and a newline
 abbrev pub line_of : List ℕ → View → List ℕ
 line_of to view = to ++ TAB ∷ (json_text (view_json view) ++ NEWLINE ∷ [])
 

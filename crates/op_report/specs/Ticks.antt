@@ -8,6 +8,7 @@ use Rattle.op_report.specs.declared.view.AlertView.{AlertView}
 abbrev pub labels_json : Texts → Json
 labels_json labels = object_of (map (λ label. (label.0, text label.1)) labels)
 
+-- how the state of an alert is written; true where it fires
 abbrev pub state_word : Bool → List ℕ
 state_word true = codes "firing"
 state_word false = codes "pending"

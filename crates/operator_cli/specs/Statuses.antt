@@ -96,5 +96,6 @@ status_of_stop Memory = NoMemory
 abbrev pub status_of_well : Bool → Status
 status_of_well good = if good then Done else Refused
 
+-- Done where each report has good answers alone, else Refused
 abbrev pub status_of : List Report → Status
 status_of reports = status_of_well (all_well reports)

@@ -24,6 +24,7 @@ abbrev pub group_key : Option Grouping → Texts → Texts
 group_key None labels = group_by true [] labels
 group_key (Some g) labels = group_by g.by g.labels labels
 
+-- the elements by the labels that the grouping leaves of theirs
 abbrev pub groups_of : Option Grouping → List Element → LabelMap (List Element)
 groups_of g elements = grouped (λ (e : Element). group_key g e.0) elements
 
@@ -32,6 +33,7 @@ abbrev pub least : List ℤ → ℤ
 least [] = pos 0
 least (n ∷ numbers) = fold int_min n numbers
 
+-- the greatest of the numbers, 0 of none
 abbrev pub greatest : List ℤ → ℤ
 greatest [] = pos 0
 greatest (n ∷ numbers) = fold int_max n numbers
@@ -54,6 +56,7 @@ aggregated _ numbers = pos 1
 abbrev pub group_element : AggregateOp → Texts × List Element → Element
 group_element op group = (group.0, aggregated op (values_in group.1))
 
+-- an element for each group
 abbrev pub aggregated_groups : AggregateOp → LabelMap (List Element) → Outcome
 aggregated_groups op groups = Vector (map (group_element op) groups)
 
@@ -66,6 +69,7 @@ abbrev pub counting_by : Bool → List (List ℕ) → List ℕ → Grouping
 counting_by true names label = record { by = true; labels = names ++ label ∷ [] }
 counting_by false names label = record { by = false; labels = names }
 
+-- the grouping of `count_values`: the one that is written, and by the label of the value too
 abbrev pub counting : List ℕ → Option Grouping → Grouping
 counting label None = counting_by true [] label
 counting label (Some g) = counting_by g.by g.labels label

@@ -29,9 +29,11 @@ use Rattle.ql_call.specs.declared.outcome.Outcome.TheVariants as outcome
 abbrev pub unnamed : (ℤ → ℤ) → Element → Changed
 unnamed f e = changed_to e.0 (without_name e.0) (f e.1)
 
+-- a function of each element's value, whose name goes
 abbrev pub each_value : (ℤ → ℤ) → List Element → Outcome
 each_value f elements = gathered (map (unnamed f) elements)
 
+-- the absolute value of a number
 abbrev pub size_of : ℤ → ℤ
 size_of n = clamped (pos (unsigned_abs n))
 
@@ -52,9 +54,11 @@ abbrev pub over_labels : RangeFunction → Texts → Texts
 over_labels range_function.Last labels = labels
 over_labels _ labels = without_name labels
 
+-- what a function makes of one range of samples, with the labels that it leaves
 abbrev pub over_one : RangeFunction → Span → Texts × List Sample → List Changed
 over_one f range series = changed_by series.0 (over_labels f series.0) (over f series.1 range)
 
+-- what a function makes of each range of samples
 abbrev pub over_series : RangeFunction → Span → List (Texts × List Sample) → Outcome
 over_series f range series = gathered (flat_map (over_one f range) series)
 
@@ -69,6 +73,7 @@ over_operand f (operand.Plain given) = outcome.Vector []
 abbrev pub between : ℤ → ℤ → ℤ → ℤ
 between low high n = int_max low (int_min high n)
 
+-- each value brought between the bounds; nothing where the bounds are crossed
 abbrev pub clamp : ℤ → ℤ → List Element → Outcome
 clamp low high elements = if int_lt high low then outcome.Vector [] else each_value (between low high) elements
 
@@ -94,6 +99,7 @@ abbrev pub first_of : List Operand → Operand
 first_of [] = operand.Text []
 first_of (given ∷ operands) = given
 
+-- what a function makes of its operands at a moment
 abbrev pub call : Function → Moment → List Operand → Outcome
 call function.Abs t args = each_value size_of (elements_at 0 args)
 call function.Sgn t args = each_value int_signum (elements_at 0 args)
@@ -114,5 +120,6 @@ abbrev pub call_known : Option Function → Moment → List Operand → Outcome
 call_known None t args = outcome.Vector []
 call_known (Some f) t args = call f t args
 
+-- what the function of a name makes of its operands, where there is one
 abbrev pub call_of : List ℕ → Moment → List Operand → Outcome
 call_of name t args = call_known (function_of name) t args

@@ -12,6 +12,7 @@ Element = Texts × ℤ
 abbrev pub NAME : List ℕ
 NAME = codes "__name__"
 
+-- the labels without the metric's name
 abbrev pub without_name : Texts → Texts
 without_name labels = without_entry labels NAME
 

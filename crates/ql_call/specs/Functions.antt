@@ -36,6 +36,7 @@ other_function name =
     else if bytes_eq name (codes "timestamp") then Some function.Timestamp
     else if bytes_eq name (codes "vector") then Some function.Vector else None
 
+-- the function over ranges where there is one, else the other
 abbrev pub or_over : Option RangeFunction → Option Function → Option Function
 or_over None other = other
 or_over (Some f) other = Some (function.Over f)

@@ -14,6 +14,7 @@ with_one m ones e = with_member ones (key_of m e.0) e
 abbrev pub is_keyed : Option Matching → LabelMap (List Element) → Element → Bool
 is_keyed m ones e = has_labels ones (key_of m e.0)
 
+-- no group has the element's key
 abbrev pub is_unkeyed : Option Matching → LabelMap (List Element) → Element → Bool
 is_unkeyed m ones e = not (is_keyed m ones e)
 

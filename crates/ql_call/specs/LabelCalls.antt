@@ -14,10 +14,12 @@ abbrev pub replaced_by : List ℕ → Texts → Option (List ℕ) → Texts
 replaced_by target labels None = labels
 replaced_by target labels (Some value) = labels_with labels target value
 
+-- an element with its target label replaced, where the pattern matches the source label's value
 abbrev pub replaced : List ℕ → List ℕ → List ℕ → List ℕ → Element → Changed
 replaced target replacement source pattern e =
     changed_to e.0 (replaced_by target e.0 (pattern_expands pattern (label_value e.0 source) replacement)) e.1
 
+-- `label_replace` of each element
 abbrev pub label_replace : List ℕ → List ℕ → List ℕ → List ℕ → List Element → Outcome
 label_replace target replacement source pattern elements = gathered (map (replaced target replacement source pattern) elements)
 
@@ -32,5 +34,6 @@ abbrev pub joined_to : List ℕ → List ℕ → List (List ℕ) → Element →
 joined_to target separator sources e =
     changed_to e.0 (labels_with e.0 target (joined separator (map (label_value e.0) sources))) e.1
 
+-- `label_join` of each element
 abbrev pub label_join : List ℕ → List ℕ → List (List ℕ) → List Element → Outcome
 label_join target separator sources elements = gathered (map (joined_to target separator sources) elements)

@@ -34,6 +34,8 @@ left_by false names labels = without names labels
 abbrev pub with_included : List (List ℕ) → Texts → Texts → Texts
 with_included names one many = fold (λ labels name. labels_with labels name (label_value one name)) many names
 
+-- the labels of a pair: of the matching without a group clause, of the many side with one and the labels that
+-- it includes
 abbrev pub side_labels : Bool → List (List ℕ) → Option Side → Texts → Texts → Texts
 side_labels on names None one many = left_by on names many
 side_labels on names (Some side) one many = with_included side.include one many
@@ -48,6 +50,7 @@ abbrev pub side_of : Option Matching → Option Side
 side_of None = None
 side_of (Some m) = m.side
 
+-- there is a group clause
 abbrev pub is_grouped : Option Side → Bool
 is_grouped None = false
 is_grouped (Some side) = true
@@ -82,6 +85,7 @@ pair_result op boolean m many None = []
 pair_result op boolean m many (Some one) =
     changed_by many.0 (named_by op boolean (pair_labels m one.0 many.0)) (pair_number op boolean (is_swapped (side_of m)) one.1 many.1)
 
+-- what an element of the many side gives with the one element of its key on the other side
 abbrev pub result_of : BinaryOp → Bool → Option Matching → LabelMap (List Element) → Element → List Changed
 result_of op boolean m ones many = pair_result op boolean m many (sole (members_of ones (key_of m many.0)))
 
@@ -104,6 +108,7 @@ abbrev pub least_clash : Option Matching → List Element → List Changed → O
 least_clash m ones results =
     lesser (first_clash (map (keyed m) ones)) (lesser (many_clash (is_grouped (side_of m)) m results) (first_clash results))
 
+-- what two sides give: their results, or the least clash
 abbrev pub matched_sides : BinaryOp → Bool → Option Matching → List Element → List Element → Outcome
 matched_sides op boolean m ones manys =
     let results = results_of op boolean m ones manys in

@@ -30,6 +30,7 @@ outcome_scalar (outcome.Scalar n) = Some n
 outcome_scalar (outcome.Clash these those) = None
 outcome_scalar outcome.ZeroScalar = None
 
+-- the number of a scalar
 abbrev pub scalar_of : Operand → Option ℤ
 scalar_of (operand.Text text) = None
 scalar_of (operand.Selected elements moments labels) = None
@@ -47,12 +48,15 @@ text_of (operand.Plain given) = []
 abbrev pub elements_at : ℕ → List Operand → List Element
 elements_at number operands = option_map_or elements_of (slice_get operands number) []
 
+-- the number of the operand at that place, where it is a scalar
 abbrev pub number_at : ℕ → List Operand → Option ℤ
 number_at number operands = option_map_or scalar_of (slice_get operands number) None
 
+-- the number of the scalar at that place, 0 where there is none
 abbrev pub scalar_at : ℕ → List Operand → ℤ
 scalar_at number operands = unwrap_or (number_at number operands) (pos 0)
 
+-- the text of the operand at that place, empty where there is none
 abbrev pub text_at : ℕ → List Operand → List ℕ
 text_at number operands = option_map_or text_of (slice_get operands number) []
 
@@ -63,12 +67,14 @@ failure (outcome.Scalar n) = None
 failure (outcome.Clash these those) = Some (outcome.Clash these those)
 failure outcome.ZeroScalar = Some outcome.ZeroScalar
 
+-- the failure of an operand that failed
 abbrev pub failure_of : Operand → Option Outcome
 failure_of (operand.Text text) = None
 failure_of (operand.Selected elements moments labels) = None
 failure_of (operand.Ranged series range labels) = None
 failure_of (operand.Plain given) = failure given
 
+-- the first failure, where there is one, else the later one
 abbrev pub or_else : Option Outcome → Option Outcome → Option Outcome
 or_else None later = later
 or_else (Some given) later = Some given

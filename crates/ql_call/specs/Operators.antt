@@ -30,6 +30,7 @@ abbrev pub signed_vector : Bool → List Element → Outcome
 signed_vector true elements = gathered (map negated elements)
 signed_vector false elements = Vector elements
 
+-- a sign before a scalar or a vector
 abbrev pub signed : Bool → Option ℤ → List Element → Outcome
 signed minus (Some n) elements = signed_scalar minus n
 signed minus None elements = signed_vector minus elements
@@ -69,6 +70,7 @@ abbrev pub drops_name : BinaryOp → Bool → Bool
 drops_name (Arith op) boolean = true
 drops_name _ boolean = boolean
 
+-- the labels that an operator leaves of an element's: with the name only in a comparison without `bool`
 abbrev pub named_by : BinaryOp → Bool → Texts → Texts
 named_by op boolean labels = if drops_name op boolean then without_name labels else labels
 
@@ -77,16 +79,18 @@ abbrev pub changed_by : Texts → Texts → Option ℤ → List Changed
 changed_by from to None = []
 changed_by from to (Some value) = changed_to from to value ∷ []
 
--- an element with a scalar on its right, and on its left
+-- an element with a scalar on its right
 abbrev pub left_element : BinaryOp → Bool → ℤ → Element → List Changed
 left_element op boolean n e = changed_by e.0 (named_by op boolean e.0) (number_of op boolean e.1 e.1 n)
 
+-- an element with a scalar on its left
 abbrev pub right_element : BinaryOp → Bool → ℤ → Element → List Changed
 right_element op boolean n e = changed_by e.0 (named_by op boolean e.0) (number_of op boolean e.1 n e.1)
 
--- a vector with a scalar, and a scalar with a vector: each element by itself
+-- a vector with a scalar on its right: each element by itself
 abbrev pub of_left_vector : BinaryOp → Bool → List Element → ℤ → Outcome
 of_left_vector op boolean elements n = gathered (flat_map (left_element op boolean n) elements)
 
+-- a vector with a scalar on its left: each element by itself
 abbrev pub of_right_vector : BinaryOp → Bool → ℤ → List Element → Outcome
 of_right_vector op boolean n elements = gathered (flat_map (right_element op boolean n) elements)

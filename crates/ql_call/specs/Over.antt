@@ -19,6 +19,7 @@ newest_of [] = pos 0
 newest_of (n ∷ []) = n
 newest_of (n ∷ m ∷ numbers) = newest_of (m ∷ numbers)
 
+-- 1 where the test holds, else 0
 abbrev pub one_if : Bool → ℕ
 one_if holds = if holds then 1 else 0
 
@@ -28,6 +29,7 @@ changes_in [] = 0
 changes_in (n ∷ []) = 0
 changes_in (n ∷ m ∷ numbers) = one_if (not (int_eq n m)) + changes_in (m ∷ numbers)
 
+-- how often a number is below the one before it
 abbrev pub resets_in : List ℤ → ℕ
 resets_in [] = 0
 resets_in (n ∷ []) = 0
@@ -37,6 +39,7 @@ resets_in (n ∷ m ∷ numbers) = one_if (int_lt m n) + resets_in (m ∷ numbers
 abbrev pub rise : ℤ → ℤ → ℤ
 rise earlier later = if int_lt later earlier then later else later -ℤ earlier
 
+-- the sum of the rises from each number to the next
 abbrev pub increase_in : List ℤ → ℤ
 increase_in [] = pos 0
 increase_in (n ∷ []) = pos 0
@@ -60,6 +63,7 @@ of_two (n ∷ m ∷ numbers) given = Some (clamped given)
 abbrev pub rate_of : Span → List ℤ → Option ℤ
 rate_of range numbers = if int_lt (pos 0) range.0 then of_two numbers (rate_in range numbers) else None
 
+-- what a function over a range makes of the numbers of its samples, of which there is at least one
 abbrev pub number_over : RangeFunction → Span → List ℤ → Option ℤ
 number_over Avg range numbers = Some (clamped (average numbers))
 number_over Sum range numbers = Some (clamped (total numbers))
@@ -78,5 +82,6 @@ abbrev pub over_some : RangeFunction → Span → List ℤ → Option ℤ
 over_some function range [] = None
 over_some function range (n ∷ numbers) = number_over function range (n ∷ numbers)
 
+-- what a function makes of a range of samples
 abbrev pub over : RangeFunction → List Sample → Span → Option ℤ
 over function samples range = over_some function range (sample_values samples)

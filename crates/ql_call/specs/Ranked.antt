@@ -21,6 +21,7 @@ abbrev pub weight : Bool → ℤ → ℤ
 weight true value = neg_ℤ value
 weight false value = value
 
+-- an element with its rank
 abbrev pub rank_of : Bool → Element → Rank × ℤ
 rank_of top e = ((weight top e.1, e.0), e.1)
 
@@ -37,6 +38,7 @@ abbrev pub count_of : ℤ → ℕ
 count_of (pos n) = n
 count_of (negsuc n) = zero
 
+-- the first elements by rank, as many as are asked for
 abbrev pub first_ranked : Bool → ℤ → List Element → List Element
 first_ranked top k elements = take (count_of k) (ranked top elements)
 

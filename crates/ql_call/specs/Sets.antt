@@ -20,6 +20,7 @@ has_key m elements e = has_labels (ones_by_key m elements) (key_of m e.0)
 abbrev pub shared : Option Matching → List Element → List Element → List Element
 shared m elements others = filter (has_key m others) elements
 
+-- the elements whose key no element of the others has
 abbrev pub unshared : Option Matching → List Element → List Element → List Element
 unshared m elements others = filter (λ (e : Element). not (has_key m others e)) elements
 

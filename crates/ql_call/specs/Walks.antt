@@ -23,5 +23,6 @@ nearest (c ∷ changed) = with_value (nearest changed) c.to c.from
 abbrev pub walked : List Changed → Walk
 walked changed = record { clash = first_clash changed; nearest = nearest changed }
 
+-- the pair comes first, or both are equal
 abbrev pub is_before : Pair → Pair → Bool
 is_before these those = is_le (pair_cmp these those)

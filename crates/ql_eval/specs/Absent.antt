@@ -14,12 +14,15 @@ pub record Given : Type 0 where
   pub names : Map (Unit {0})
   pub labels : Texts
 
+-- no label is given yet
 abbrev pub nothing_given : Given
 nothing_given = record { names = []; labels = [] }
 
+-- a matcher before has been on the label
 abbrev pub is_given : List ℕ → Map (Unit {0}) → Bool
 is_given name names = is_some (value_at names name)
 
+-- the matcher asks for one value
 abbrev pub is_equality : MatchOp → Bool
 is_equality Eq = true
 is_equality Ne = false
@@ -34,13 +37,16 @@ gives given m = is_equality m.op && not (is_given m.name given.names)
 abbrev pub with_label : Given → Matcher → Given
 with_label given m = record { names = with_entry given.names m.name tt; labels = labels_with given.labels m.name m.value }
 
+-- the label is given no longer
 abbrev pub without_label : Given → Matcher → Given
 without_label given m = record { names = given.names; labels = without_entry given.labels m.name }
 
+-- what is given after a matcher; one on the metric's name gives nothing
 abbrev pub after_matcher : Given → Matcher → Given
 after_matcher given m =
     if bytes_eq m.name NAME then given else if gives given m then with_label given m else without_label given m
 
+-- the labels that the matchers give, one after the other
 abbrev pub given_labels : List Matcher → Given
 given_labels matchers = fold after_matcher nothing_given matchers
 

@@ -28,6 +28,7 @@ with_name (Some name) matchers = name_matcher name ∷ matchers
 abbrev pub is_asked : Texts → Matcher → Bool
 is_asked ambient m = not (is_some (value_at ambient m.name))
 
+-- what the store is asked: the matchers with one for the name, without those that the ambient label answers
 abbrev pub asked_of : Texts → Option (List ℕ) → List Matcher → List Matcher
 asked_of ambient name matchers = filter (is_asked ambient) (with_name name matchers)
 
@@ -45,9 +46,11 @@ abbrev pub element_of : Texts → Option ℤ → List Element
 element_of labels None = []
 element_of labels (Some value) = (labels, value) ∷ []
 
+-- the elements of entries that aren't stale
 abbrev pub elements_in : List Entry → List Element
 elements_in entries = flat_map (λ (entry : Entry). element_of entry.labels entry.value) entries
 
+-- the moments of entries
 abbrev pub moments_in : List Entry → List Moment
 moments_in entries = map (λ (entry : Entry). entry.at) entries
 
@@ -63,6 +66,7 @@ instant entries labels = operand.Selected (elements_in entries) (moments_in entr
 abbrev pub range_before : Store → List Matcher → ℤ → Span → Texts → Operand
 range_before store asked t range labels = operand.Ranged (ranged store asked (t -ℤ range.0) t) range labels
 
+-- what a selector gives: the newest entries before the moment, or with a range their samples
 abbrev pub selected_at : Store → List Matcher → ℤ → Option Span → Texts → Operand
 selected_at store asked t None labels = instant (newest store asked (t -ℤ pos LOOKBACK) t) labels
 selected_at store asked t (Some range) labels = range_before store asked t range labels

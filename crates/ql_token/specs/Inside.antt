@@ -9,6 +9,7 @@ use Rattle.ql_token.specs.declared.strings.Step.TheVariants.{Close, Piece, Broke
 abbrev pub length_of : ℕ → ℕ → List ℕ → Option ℕ
 length_of quote n bytes = option_map (λ found. found.1) (inside_from quote n bytes)
 
+-- a length behind so many bytes more
 abbrev pub after : ℕ → Option ℕ → Option ℕ
 after n o = option_map (λ m. n + m) o
 

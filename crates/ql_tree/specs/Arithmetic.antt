@@ -14,6 +14,8 @@ abbrev pub unless_zero : ℤ → ℤ → Option ℤ
 unless_zero (pos zero) z = None
 unless_zero _ z = Some (clamped z)
 
+-- what an operator of arithmetic makes of two numbers: their exact result, brought between the least and the
+-- greatest number, or none where it divides by zero
 unfoldable pub arith_of : ArithOp → ℤ → ℤ → Option ℤ
 arith_of Add a b = Some (clamped (a +ℤ b))
 arith_of Sub a b = Some (clamped (a -ℤ b))

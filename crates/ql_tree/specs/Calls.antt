@@ -9,6 +9,7 @@ use Rattle.ql_tree.specs.declared.types.Shape.TheVariants as shape
 use Rattle.ql_tree.specs.declared.types.ExprType.{ExprType}
 use Rattle.ql_tree.specs.declared.types.ExprType.TheVariants.{Scalar, Vector, Range, Str}
 
+-- one of the names is this one
 abbrev pub is_among : List ℕ → List (List ℕ) → Bool
 is_among name names = list_any (bytes_eq name) names
 
@@ -54,6 +55,7 @@ label_join_shape args =
 abbrev pub result_of : List ℕ → Shape
 result_of function = if bytes_eq function (codes "time") then shape.Scalar else shape.Vector
 
+-- a call of a function with a list of argument types, where there is one: each argument has its type
 abbrev pub plain_call_shape : List ℕ → Option (List ExprType) → List Shape → Option Shape
 plain_call_shape function None args = None
 plain_call_shape function (Some types) args = if have_types args types then Some (result_of function) else None

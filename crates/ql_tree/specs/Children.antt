@@ -14,10 +14,12 @@ children_of (Expr-F.Binary op boolean matching left right) = left ++ right
 children_of (Expr-F.Call function args) = args
 children_of (Expr-F.Aggregate op grouping param of) = param ++ of
 
+-- the greatest of the numbers, 0 of none
 abbrev pub greatest : List ℕ → ℕ
 greatest [] = 0
 greatest (n ∷ rest) = max n (greatest rest)
 
+-- a node is one level deeper than its deepest child
 abbrev pub depth_step : Expr-F ℕ → ℕ
 depth_step node = 1 + greatest (children_of node)
 

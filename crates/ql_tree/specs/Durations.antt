@@ -8,6 +8,7 @@ use Rattle.op_base.specs.declared.span.SpanFault.{SpanFault}
 unfoldable pub is_duration : List ℕ → Bool
 is_duration text = is_ok (span_read text)
 
+-- the span that is read; where none is, which no token of a duration has, 0
 abbrev pub span_or_none : Result Span SpanFault → Span
 span_or_none (Ok span) = span
 span_or_none (Err fault) = record { 0 = pos 0 }

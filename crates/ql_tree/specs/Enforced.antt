@@ -15,12 +15,15 @@ use Rattle.ql_tree.specs.declared.tree.Expr.TheVariants as expr
 abbrev pub matcher_of : List ℕ → List ℕ → Matcher
 matcher_of name value = record { name = name; op = Eq; value = value }
 
+-- the matcher is on the label
 abbrev pub is_on : List ℕ → Matcher → Bool
 is_on name m = bytes_eq m.name name
 
+-- the matchers on other labels, in order, and behind them the enforced one
 abbrev pub enforced_matchers : List ℕ → List ℕ → List Matcher → List Matcher
 enforced_matchers name value matchers = filter (λ m. not (is_on name m)) matchers ++ matcher_of name value ∷ []
 
+-- a selector gets the enforced matchers, every other node stays
 abbrev pub enforce_step : List ℕ → List ℕ → Expr-F Expr → Expr
 enforce_step name value (Expr-F.Number n) = expr.Number n
 enforce_step name value (Expr-F.Str text) = expr.Str text
@@ -35,6 +38,7 @@ enforce_step name value (Expr-F.Aggregate op grouping param of) = expr.Aggregate
 abbrev pub enforced : List ℕ → List ℕ → Expr → Expr
 enforced name value = fold-Expr Expr (enforce_step name value)
 
+-- a selector's own matchers; of every other node those of its children in order
 abbrev pub matchers_step : Expr-F (List Matcher) → List Matcher
 matchers_step (Expr-F.Select metric matchers range offset) = matchers
 matchers_step node = flat_map (λ matchers. matchers) (children_of node)
@@ -43,6 +47,7 @@ matchers_step node = flat_map (λ matchers. matchers) (children_of node)
 abbrev pub matchers_of : Expr → List Matcher
 matchers_of = fold-Expr (List Matcher) matchers_step
 
+-- the matcher asks for one value
 abbrev pub is_equality : MatchOp → Bool
 is_equality Eq = true
 is_equality _ = false
@@ -51,6 +56,7 @@ is_equality _ = false
 abbrev pub conflicts : List ℕ → List ℕ → Matcher → Bool
 conflicts name value m = is_on name m && not (is_equality m.op && bytes_eq m.value value)
 
+-- the first of the matchers
 abbrev pub first_of : List Matcher → Option Matcher
 first_of [] = None
 first_of (m ∷ rest) = Some m

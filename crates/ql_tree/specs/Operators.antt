@@ -11,6 +11,7 @@ use Rattle.ql_tree.specs.declared.word.Keyword.TheVariants as keyword
 use Rattle.ql_tree.specs.declared.word.Word.{Word}
 use Rattle.ql_tree.specs.declared.word.Word.TheVariants as word
 
+-- the operators that are words
 abbrev pub keyword_operator : Keyword → Option BinaryOp
 keyword_operator keyword.And = Some binary.And
 keyword_operator keyword.Unless = Some binary.Unless
@@ -33,6 +34,7 @@ operator_of word.LessEqual = Some binary.Le
 operator_of (word.Name k text) = keyword_operator k
 operator_of _ = None
 
+-- the level of an operator of arithmetic: `*`, `/` and `%` bind more closely than `+` and `-`
 abbrev pub arith_level : ArithOp → ℕ
 arith_level Mul = 1
 arith_level Div = 1
@@ -63,6 +65,7 @@ is_comparison binary.Ge = true
 is_comparison binary.Le = true
 is_comparison _ = false
 
+-- the aggregate that a word names
 abbrev pub keyword_aggregate : Keyword → Option AggregateOp
 keyword_aggregate (keyword.Aggregate op) = Some op
 keyword_aggregate _ = None
@@ -78,6 +81,7 @@ sign_of word.Minus = Some true
 sign_of word.Plus = Some false
 sign_of _ = None
 
+-- the words that begin the matching of labels; true of `on`
 abbrev pub keyword_matching : Keyword → Option Bool
 keyword_matching keyword.On = Some true
 keyword_matching keyword.Ignoring = Some false
@@ -88,6 +92,7 @@ unfoldable pub matching_of : Word → Option Bool
 matching_of (word.Name k text) = keyword_matching k
 matching_of _ = None
 
+-- the words that begin a group clause; true of `group_left`
 abbrev pub keyword_side : Keyword → Option Bool
 keyword_side keyword.GroupLeft = Some true
 keyword_side keyword.GroupRight = Some false
@@ -98,6 +103,7 @@ unfoldable pub side_of : Word → Option Bool
 side_of (word.Name k text) = keyword_side k
 side_of _ = None
 
+-- the words that begin a grouping; true of `by`
 abbrev pub keyword_grouping : Keyword → Option Bool
 keyword_grouping keyword.By = Some true
 keyword_grouping keyword.Without = Some false

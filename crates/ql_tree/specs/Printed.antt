@@ -25,9 +25,11 @@ use Rattle.ql_tree.specs.declared.tree.Side.{Side}
 abbrev pub escaped : ℕ → List ℕ
 escaped b = if b == 34 then codes "\\\"" else if b == 92 then codes "\\\\" else if b == 10 then codes "\\n" else b ∷ []
 
+-- a text in double quotes, with escapes
 unfoldable pub quoted_text : List ℕ → List ℕ
 quoted_text text = codes "\"" ++ flat_map escaped text ++ codes "\""
 
+-- how an operator of arithmetic is written
 abbrev pub arith_name : ArithOp → List ℕ
 arith_name arith.Add = codes "+"
 arith_name arith.Sub = codes "-"
@@ -35,6 +37,7 @@ arith_name arith.Mul = codes "*"
 arith_name arith.Div = codes "/"
 arith_name arith.Rem = codes "%"
 
+-- how a binary operator is written
 abbrev pub operator_name : BinaryOp → List ℕ
 operator_name (binary.Arith op) = arith_name op
 operator_name binary.Eq = codes "=="
@@ -47,6 +50,7 @@ operator_name binary.And = codes "and"
 operator_name binary.Unless = codes "unless"
 operator_name binary.Or = codes "or"
 
+-- how an aggregate is written
 abbrev pub aggregate_name : AggregateOp → List ℕ
 aggregate_name aggregate.Sum = codes "sum"
 aggregate_name aggregate.Min = codes "min"
@@ -58,6 +62,7 @@ aggregate_name aggregate.CountValues = codes "count_values"
 aggregate_name aggregate.TopK = codes "topk"
 aggregate_name aggregate.BottomK = codes "bottomk"
 
+-- how a matcher's operator is written
 abbrev pub match_name : MatchOp → List ℕ
 match_name match.Eq = codes "="
 match_name match.Ne = codes "!="
@@ -68,6 +73,7 @@ match_name match.Nr = codes "!~"
 unfoldable pub labels_text : List (List ℕ) → List ℕ
 labels_text labels = codes "(" ++ join_by (λ label. label) (codes ", ") labels ++ codes ")"
 
+-- a matcher: its label, its operator and its value in quotes
 unfoldable pub matcher_text : Matcher → List ℕ
 matcher_text m = m.name ++ match_name m.op ++ quoted_text m.value
 
@@ -124,6 +130,7 @@ operand_text k (piece ∷ rest) = placed k piece
 abbrev pub listed_text : List Piece → List ℕ
 listed_text pieces = join_by (λ piece. piece.1) (codes ", ") pieces
 
+-- the piece of a node, of the pieces of its children
 abbrev pub print_step : Expr-F Piece → Piece
 print_step (Expr-F.Number n) = (0, signed_decimal n)
 print_step (Expr-F.Str text) = (0, quoted_text text)
@@ -138,6 +145,7 @@ print_step (Expr-F.Call function args) = (0, function ++ codes "(" ++ listed_tex
 print_step (Expr-F.Aggregate op grouping param of) =
     (0, aggregate_name op ++ grouping_text grouping ++ codes "(" ++ listed_text (param ++ of) ++ codes ")")
 
+-- the piece of a tree, node by node
 abbrev pub piece_of : Expr → Piece
 piece_of = fold-Expr Piece print_step
 

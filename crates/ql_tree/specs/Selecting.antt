@@ -34,6 +34,7 @@ pub data Matchers : List Matcher → List Word → Type 0 where
   more : (m : Matcher) (ms : List Matcher) (ts us : List Word) → MatcherOf m ts → Matchers ms us
       → Matchers (m ∷ ms) (ts ++ (word.Comma ∷ us))
 
+-- the matcher is on the metric's name
 abbrev pub is_on_name : Matcher → Bool
 is_on_name m = bytes_eq m.name (codes "__name__")
 

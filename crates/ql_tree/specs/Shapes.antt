@@ -13,6 +13,7 @@ type_of_shape shape.Vector = type.Vector
 type_of_shape shape.Range = type.Range
 type_of_shape (shape.Str text) = type.Str
 
+-- both types are the same
 abbrev pub is_type : ExprType → ExprType → Bool
 is_type type.Scalar type.Scalar = true
 is_type type.Vector type.Vector = true
@@ -27,6 +28,7 @@ have_types [] (t ∷ types) = false
 have_types (s ∷ shapes) [] = false
 have_types (s ∷ shapes) (t ∷ types) = is_type (type_of_shape s) t && have_types shapes types
 
+-- the shape is a text's
 abbrev pub is_string : Shape → Bool
 is_string (shape.Str text) = true
 is_string _ = false

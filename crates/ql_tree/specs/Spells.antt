@@ -20,9 +20,11 @@ use Rattle.ql_tree.specs.declared.word.Keyword.TheVariants as keyword
 use Rattle.ql_tree.specs.declared.word.Word.{Word}
 use Rattle.ql_tree.specs.declared.word.Word.TheVariants as word
 
+-- a relation of trees and the words that spell them
 abbrev pub Spelling : Type 1
 Spelling = Expr → List Word → Type 0
 
+-- the word is an opening bracket
 abbrev pub is_open : Word → Bool
 is_open word.Open = true
 is_open _ = false

@@ -6,9 +6,11 @@ use Rattle.std.specs.List.{list_all}
 use Rattle.std.specs.Char.{is_digit}
 use Rattle.std.specs.Str.Parse.{digits_value}
 
+-- a double quote, a single quote or a backtick
 abbrev pub is_quote : ℕ → Bool
 is_quote b = b == 34 || b == 39 || b == 96
 
+-- a backtick, between which nothing is escaped
 abbrev pub is_backtick : ℕ → Bool
 is_backtick b = b == 96
 
@@ -16,6 +18,7 @@ is_backtick b = b == 96
 abbrev pub is_character : ℕ → Bool
 is_character c = nat_lt c 0xd800 || (nat_le 0xe000 c && nat_lt c 0x110000)
 
+-- a code below 0x80, whose byte in UTF-8 is the code itself
 abbrev pub is_seven_bit : ℕ → Bool
 is_seven_bit c = nat_lt c 0x80
 
@@ -39,7 +42,7 @@ plain_escape quote e =
     else if e == 118 then Some 11 else if e == 92 || e == quote then Some e else None
 
 -- the escape behind a backslash: its character, and how many bytes it takes. Three octal digits and
--- `x` with two hexadecimal ones stay below 80; `u` has four and `U` eight.
+-- `x` with two hexadecimal ones stay below 0x80; `u` has four and `U` eight.
 unfoldable pub escape_at : ℕ → List ℕ → Option (ℕ × ℕ)
 escape_at quote [] = None
 escape_at quote (e ∷ t) =
@@ -62,6 +65,7 @@ piece_at quote (b ∷ t) =
 abbrev pub one_more : List ℕ × ℕ → List ℕ × ℕ
 one_more found = (found.0, 1 + found.1)
 
+-- what is found behind a piece of a string: the piece's bytes come first, and it is one piece more
 abbrev pub behind_piece : List ℕ → List ℕ × ℕ → List ℕ × ℕ
 behind_piece bytes found = (bytes ++ found.0, 1 + found.1)
 
@@ -74,6 +78,7 @@ inside_from quote zero (b ∷ t) =
     if b == quote then Some ([], 1)
     else option_and_then (λ piece. option_map (behind_piece piece.0) (inside_from quote (piece.1 - 1) t)) (piece_at quote (b ∷ t))
 
+-- the bytes of the string that is found, none where none is
 abbrev pub text_found : Option (List ℕ × ℕ) → List ℕ
 text_found None = []
 text_found (Some found) = found.0

@@ -15,6 +15,7 @@ use Rattle.ql_tree.specs.declared.token.TokenKind.TheVariants.{Word, Number, Dur
 abbrev pub is_blank : ℕ → Bool
 is_blank b = b == 32 || b == 9 || b == 10 || b == 13
 
+-- the byte is no newline
 abbrev pub is_in_line : ℕ → Bool
 is_in_line b = not (b == 10)
 
@@ -52,6 +53,7 @@ abbrev pub doubles : ℕ → List ℕ → Bool
 doubles b [] = false
 doubles b (c ∷ t) = is_double b c
 
+-- a symbol of two bytes where both make one, else one of a single byte
 unfoldable pub symbol_at : ℕ → List ℕ → Option (TokenKind × ℕ)
 symbol_at b t = if doubles b t then Some (Symbol, 2) else if is_single b then Some (Symbol, 1) else None
 
@@ -73,6 +75,7 @@ token_at (b ∷ t) =
 abbrev pub token_of : ℕ → TokenKind × ℕ → Token
 token_of place found = record { kind = found.0; start = place; end = place + found.1 }
 
+-- a token in front of the others
 abbrev pub with_token : Token → Result (List Token) ℕ → Result (List Token) ℕ
 with_token token (Ok tokens) = Ok (token ∷ tokens)
 with_token token (Err place) = Err place

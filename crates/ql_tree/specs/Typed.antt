@@ -34,13 +34,16 @@ has_pattern match.Ne value = true
 has_pattern match.Re value = is_pattern value
 has_pattern match.Nr value = is_pattern value
 
+-- a matcher's pattern is one, where it has one
 abbrev pub is_sound : Matcher → Bool
 is_sound m = has_pattern m.op m.value
 
+-- a selector with a range is a range, one without is a vector
 abbrev pub window_shape : Option Span → Shape
 window_shape None = shape.Vector
 window_shape (Some range) = shape.Range
 
+-- a selector whose matchers' patterns are patterns
 abbrev pub select_shape : List Matcher → Option Span → Option Shape
 select_shape matchers range = if list_all is_sound matchers then Some (window_shape range) else None
 
@@ -50,6 +53,7 @@ sign_shape shapes =
     if have_types shapes (Scalar ∷ []) then Some shape.Scalar
     else if have_types shapes (Vector ∷ []) then Some shape.Vector else None
 
+-- the operators on sets of elements
 abbrev pub is_set : BinaryOp → Bool
 is_set And = true
 is_set Unless = true
@@ -65,6 +69,7 @@ abbrev pub are_apart : Bool → List (List ℕ) → Option Side → Bool
 are_apart on labels None = true
 are_apart on labels (Some side) = not on || list_all (is_missing labels) side.include
 
+-- there is a group clause
 abbrev pub has_side : Option Side → Bool
 has_side None = false
 has_side (Some side) = true
@@ -74,6 +79,7 @@ abbrev pub may_match : BinaryOp → Option Matching → Bool
 may_match op None = true
 may_match op (Some m) = not (is_set op && has_side m.side) && are_apart m.on m.labels m.side
 
+-- there is no matching of labels
 abbrev pub has_no_matching : Option Matching → Bool
 has_no_matching None = true
 has_no_matching (Some m) = false
@@ -82,6 +88,7 @@ has_no_matching (Some m) = false
 abbrev pub takes_scalars : BinaryOp → Option Matching → Bool
 takes_scalars op m = not (is_set op) && has_no_matching m
 
+-- a vector where the test holds
 abbrev pub vector_if : Bool → Option Shape
 vector_if holds = if holds then Some shape.Vector else None
 
@@ -127,13 +134,16 @@ rule_of (Expr-F.Binary op boolean m left right) shapes = operands_shape (length 
 rule_of (Expr-F.Call function args) shapes = call_shape function shapes
 rule_of (Expr-F.Aggregate op grouping param of) shapes = split_shape (length param) op shapes
 
+-- the shapes of all, where each has one
 abbrev pub all_some : List (Option Shape) → Option (List Shape)
 all_some [] = Some []
 all_some (s ∷ rest) = option_and_then (λ found. option_map (λ shapes. found ∷ shapes) (all_some rest)) s
 
+-- the shape of a node, of the shapes of its children
 abbrev pub shape_step : Expr-F (Option Shape) → Option Shape
 shape_step node = option_and_then (rule_of node) (all_some (children_of node))
 
+-- the shape of a tree, where it has one
 abbrev pub shape_of : Expr → Option Shape
 shape_of = fold-Expr (Option Shape) shape_step
 

@@ -12,6 +12,7 @@ use Rattle.ql_tree.specs.declared.types.Shape.{Shape}
 abbrev pub Verdict : Type 0
 Verdict = Result Shape (List ℕ)
 
+-- a shape in front of the others, where none has failed
 abbrev pub and_shapes : Shape → Result (List Shape) (List ℕ) → Result (List Shape) (List ℕ)
 and_shapes s (Ok shapes) = Ok (s ∷ shapes)
 and_shapes s (Err path) = Err path
@@ -27,13 +28,16 @@ abbrev pub here : Option Shape → Verdict
 here None = Err []
 here (Some s) = Ok s
 
+-- a node's verdict: the failure of a child, or what its rule says of the children's shapes
 abbrev pub node_verdict : (List Shape → Option Shape) → Result (List Shape) (List ℕ) → Verdict
 node_verdict rule (Err path) = Err path
 node_verdict rule (Ok shapes) = here (rule shapes)
 
+-- the verdict of a node, of the verdicts of its children
 abbrev pub verdict_step : Expr-F Verdict → Verdict
 verdict_step node = node_verdict (rule_of node) (verdicts_from 0 (children_of node))
 
+-- the verdict of a tree: its shape, or the way to the first node in post-order that has none
 abbrev pub verdict_of : Expr → Verdict
 verdict_of = fold-Expr Verdict verdict_step
 

@@ -41,6 +41,7 @@ keyword_of text =
     if is_reserved text then unwrap_or (found_in (str_eq_ignore_ascii_case text) keywords) keyword.Unused
     else keyword.Plain
 
+-- the texts of the symbols and their words
 abbrev pub symbols : List (List ℕ × Word)
 symbols =
     (codes "+", word.Plus) ∷ (codes "-", word.Minus) ∷ (codes "*", word.Star) ∷ (codes "/", word.Slash)
@@ -51,9 +52,11 @@ symbols =
     ∷ (codes "{", word.OpenBrace) ∷ (codes "}", word.CloseBrace) ∷ (codes "[", word.OpenSquare)
     ∷ (codes "]", word.CloseSquare) ∷ (codes ",", word.Comma) ∷ []
 
+-- a number of a token
 abbrev pub number_of : ℕ → ℤ
 number_of n = pos n
 
+-- a span of so many milliseconds
 abbrev pub span_of : ℤ → Span
 span_of milliseconds = record { 0 = milliseconds }
 

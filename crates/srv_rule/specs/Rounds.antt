@@ -34,6 +34,7 @@ States = List (RuleId × List Texts)
 abbrev pub last_of : States → RuleId → Option (List Texts)
 last_of states id = finite.find id_cmp id states
 
+-- the label sets of a rule's last results are kept by the rule
 abbrev pub with_state : States → RuleId → List Texts → States
 with_state states id last = finite.put id_cmp id last states
 
@@ -95,6 +96,7 @@ pub record Ran : Type 0 where
   pub states : States
   pub failed : List FailedRule
 
+-- what stands so far in a round
 abbrev pub ran_of : Store → States → List FailedRule → Ran
 ran_of store states failed = record { store = store; states = states; failed = failed }
 
@@ -118,6 +120,7 @@ after_success t ran placed last results = record {
   failed = ran.failed;
 }
 
+-- after a rule: none are the results of one that failed
 abbrev pub after_results : Moment → Ran → Placed → Option (List Texts) → Option Vector → Ran
 after_results t ran placed last None = after_failure ran placed last
 after_results t ran placed last (Some results) = after_success t ran placed (unwrap_or last []) results
@@ -147,6 +150,7 @@ gone before states = filter (λ state. not (is_some (last_of states state.0))) b
 abbrev pub gone_entries : Moment → States → List Entry
 gone_entries t states = flat_map (λ state. stale_entries t state.1 []) states
 
+-- the store with staleness markers for what rules gave before that are gone
 abbrev pub without_gone : Moment → States → Ran → Ran
 without_gone t before ran = record {
   store = with_all ran.store (gone_entries t (gone before ran.states));

@@ -29,6 +29,8 @@ pub record Ticked : Type 0 where
 abbrev pub with_scrapes : List Entry → Memory → Moment → Store
 with_scrapes entries memory t = with_all memory.store (tick_entries t memory.scraped entries)
 
+-- what a tick leaves: the store after its round, the label sets of its scrapes, the states of the rules; and
+-- what it added
 abbrev pub ticked_from : List Entry → Memory → Ran → Ticked
 ticked_from entries memory ran = record {
   memory = record { store = ran.store; scraped = label_sets entries; states = ran.states };

@@ -10,6 +10,7 @@ use Rattle.srv_scrape.specs.declared.pages.Sample.{Sample}
 use Rattle.srv_scrape.specs.declared.target.Target.{Target}
 use Rattle.srv_scrape.specs.Joined.{joined, has_name, scraped_over}
 
+-- the label that holds a metric's name
 abbrev pub NAME : List ℕ
 NAME = codes "__name__"
 
@@ -33,6 +34,7 @@ abbrev pub left_after : Texts → ℤ → Option Texts → Option Left
 left_after force value None = None
 left_after force value (Some labels) = left_with value (scraped_over labels force)
 
+-- what is left of a sample, if anything: its labels are joined to the target's and relabelled
 abbrev pub left_of : Manner → Target → Sample → Option Left
 left_of manner target sample =
     left_after manner.force sample.value (relabelled manner.steps (joined manner.honor target.labels sample.labels))
@@ -49,9 +51,11 @@ all_named samples = list_all (λ sample. has_name sample.labels NAME) samples
 abbrev pub up_entry : Target → Moment → ℤ → Entry
 up_entry target t value = record { labels = labels_with target.labels NAME (codes "up"); at = t; value = Some value }
 
+-- a scrape that failed gives `up` with 0 alone
 abbrev pub failed_scrape : Target → Moment → List Entry
 failed_scrape target t = up_entry target t (pos 0) ∷ []
 
+-- the entry of what is left of a sample
 abbrev pub entry_of : Moment → Left → Entry
 entry_of t sample = record { labels = sample.labels; at = t; value = Some sample.value }
 

@@ -9,15 +9,19 @@ use Rattle.op_relabel.specs.Relabelled.{relabelled}
 use Rattle.cfg_types.specs.declared.job.Job.{Job}
 use Rattle.srv_scrape.specs.declared.target.Target.{Target}
 
+-- the label that holds a target's host and port
 abbrev pub ADDRESS : List ℕ
 ADDRESS = codes "__address__"
 
+-- the label that holds the scheme of a target's URL
 abbrev pub SCHEME : List ℕ
 SCHEME = codes "__scheme__"
 
+-- the label that holds the path of a target's URL
 abbrev pub METRICS_PATH : List ℕ
 METRICS_PATH = codes "__metrics_path__"
 
+-- the front of a label that holds a parameter of a target's URL
 abbrev pub PARAMETER : List ℕ
 PARAMETER = codes "__param_"
 

@@ -4,6 +4,7 @@ use Rattle.std.specs.FinMap as finite
 use Rattle.std.specs.List.Sorted.{IsStrictlySortedBy}
 use Rattle.op_base.specs.Labels.{Texts, labels_cmp}
 
+-- label sets, each with a value
 abbrev pub LabelMap : Type 0 → Type 0
 LabelMap X = List (Texts × X)
 

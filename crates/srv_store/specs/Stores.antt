@@ -12,6 +12,7 @@ use Rattle.op_base.specs.Matchers.{holds_on, label_value}
 use Rattle.srv_store.specs.declared.entry.Entry.{Entry}
 use Rattle.srv_store.specs.LabelMaps.{LabelMap, value_of, with_value, with_member}
 
+-- the entries in the order in which they came
 abbrev pub Store : Type 0
 Store = List Entry
 
@@ -116,12 +117,15 @@ in_order R pairs = put_all R [] pairs
 abbrev pub Place : Type 0
 Place = Texts × Moment
 
+-- by labels, and of equal labels by moment
 abbrev pub place_cmp : Place → Place → Ordering
 place_cmp = then_cmp (on (λ (place : Place). place.0) labels_cmp) (on (λ (place : Place). place.1.0) int_cmp)
 
+-- an entry with its labels and moment
 abbrev pub at_place : Entry → Place × Entry
 at_place entry = ((entry.labels, entry.at), entry)
 
+-- the entry that was put with its place
 abbrev pub entry_at : Place × Entry → Entry
 entry_at placed = placed.1
 
@@ -137,6 +141,7 @@ selected store matchers from to = ordered (window store matchers from to)
 abbrev pub Sample : Type 0
 Sample = Moment × ℤ
 
+-- a sample at the moment, where there is a value
 abbrev pub sample_of : Option ℤ → Moment → List Sample
 sample_of None at = []
 sample_of (Some value) at = (at, value) ∷ []

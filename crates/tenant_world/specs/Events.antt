@@ -18,6 +18,7 @@ HasNames (manifest file item) = IsNamed item
 HasNames (given number line) = Unit {0}
 HasNames (long number) = Unit {0}
 
+-- the same of each event
 abbrev pub HaveNames : List Event → Type 0
 HaveNames [] = Unit {0}
 HaveNames (event ∷ events) = HasNames event × HaveNames events

@@ -17,12 +17,14 @@ pub data Owner : Type 0 where
   everyone : Owner
   nobody : Owner
 
+-- the namespace of an object that is read; what isn't is nobody's
 abbrev pub item_owner : Item → Owner
 item_owner Broken = nobody
 item_owner NotYet = nobody
 item_owner (Rule r) = of r.namespace
 item_owner (Probe p) = of p.namespace
 
+-- pages and ticks are everyone's
 abbrev pub line_owner : InputLine → Owner
 line_owner (Page url samples) = everyone
 line_owner (Tick t) = everyone
@@ -48,18 +50,21 @@ pub data Own : Type 0 where
   page : List ℕ → Option (List Sample) → Own
   tick : Moment → Own
 
+-- an object without its file
 abbrev pub stripped_item : Item → Option Own
 stripped_item Broken = None
 stripped_item NotYet = None
 stripped_item (Rule r) = Some (rule r)
 stripped_item (Probe p) = Some (probe p)
 
+-- a page or a tick without its number
 abbrev pub stripped_line : InputLine → Option Own
 stripped_line (Page url samples) = Some (page url samples)
 stripped_line (Tick t) = Some (tick t)
 stripped_line NotYetInput = None
 stripped_line (Bad shape) = None
 
+-- an event without its file or number, where it is anyone's
 abbrev pub stripped : Event → Option Own
 stripped (manifest file item) = stripped_item item
 stripped (given number line) = stripped_line line

@@ -10,6 +10,7 @@ use Rattle.op_thin.specs.ThinProbes.{job_name}
 abbrev pub probe_url : ThinProbe → List ℕ
 probe_url probe = codes "http://" ++ probe.url ++ codes "/probe?" ++ serialize_pair (codes "target", probe.target)
 
+-- the target of a probe: its labels and the URL that is asked
 abbrev pub probe_target : ThinProbe → Target
 probe_target probe = record {
   labels = (codes "instance", probe.target) ∷ (codes "job", job_name probe) ∷ (codes "namespace", probe.namespace) ∷ [];

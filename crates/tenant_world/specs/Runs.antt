@@ -40,6 +40,7 @@ abbrev pub answered : List ℕ → Option (List ℕ) → View
 answered key None = view.Own false key (codes "Admitted") None None []
 answered key (Some broken) = view.Own false key (codes "Skipped") (Some broken) (Some EXPR_PATH) []
 
+-- an object's key as it is reported
 abbrev pub key_of : Kind → List ℕ → List ℕ → List ℕ
 key_of kind namespace name = key_text (record { kind = kind; namespace = namespace; name = name })
 
@@ -47,6 +48,7 @@ key_of kind namespace name = key_text (record { kind = kind; namespace = namespa
 abbrev pub rule_view : ThinRule → View
 rule_view rule = answered (key_of PrometheusRule rule.namespace rule.name) (skip_rule rule.judged)
 
+-- a probe that is taken is reported so
 abbrev pub probe_view : ThinProbe → View
 probe_view probe = answered (key_of ProbeKind probe.namespace probe.name) None
 

@@ -48,6 +48,7 @@ home_label n = (HOME, n) ∷ []
 abbrev pub written_rule : Recording → WrittenRule
 written_rule r = record { name = r.record_name; expr = r.tree; labels = [] }
 
+-- the rule file of a rule as it is written
 abbrev pub written_file : Recording → RuleFile
 written_file r = record {
   namespace = r.namespace;
@@ -80,9 +81,11 @@ own_ticked n tenant t =
 abbrev pub own_count : Tenant → ℕ
 own_count tenant = length tenant.rules + length tenant.probes
 
+-- the rule takes the place of one, or the tenant isn't full
 abbrev pub rule_has_room : Tenant → ThinRule → Bool
 rule_has_room tenant r = fits (is_some (value_at tenant.rules r.name)) (own_count tenant)
 
+-- the probe takes the place of one, or the tenant isn't full
 abbrev pub probe_has_room : Tenant → ThinProbe → Bool
 probe_has_room tenant p = fits (is_some (value_at tenant.probes p.name)) (own_count tenant)
 
@@ -91,6 +94,7 @@ abbrev pub with_rule : Tenant → ThinRule → Bool → Tenant
 with_rule tenant r true = record tenant { rules = with_entry tenant.rules r.name r; known = true }
 with_rule tenant r false = tenant
 
+-- the probe is put in its place where there is room
 abbrev pub with_probe : Tenant → ThinProbe → Bool → Tenant
 with_probe tenant p true = record tenant { probes = with_entry tenant.probes p.name p; known = true }
 with_probe tenant p false = tenant
@@ -115,6 +119,7 @@ own_next n tenant (tick t) = with_tick n tenant t (late tenant.last t)
 abbrev pub own_tick_view : Ticked → Moment → View
 own_tick_view given t = tick_view given.failed given.added t
 
+-- what a tick says to a known tenant, unless it is late
 abbrev pub own_tick_said : List ℕ → Tenant → Moment → Option Moment → List View
 own_tick_said n tenant t (Some last) = []
 own_tick_said n tenant t None = if tenant.known then own_tick_view (own_ticked n tenant t) t ∷ [] else []

@@ -24,6 +24,7 @@ use Rattle.op_base.specs.contracts.list.List.TheInside as inside
 abbrev pub the_former : Former {0} → Former {0}
 the_former item = list item
 
+-- a list of weighed items is weighed
 abbrev pub the_weighed : {item : Former {0}} → Weighed item → Weighed (the_former item)
 the_weighed weighed = w_list weighed
 
@@ -31,6 +32,7 @@ the_weighed weighed = w_list weighed
 pub the_empty : List ⊥
 the_empty = []
 
+-- the items of a list
 abbrev pub the_items : (X : Type 0) → List X → List X
 the_items X items = items
 
