@@ -1,7 +1,9 @@
 mod ReportLemmas
 mod FolderLemmas
 pub mod HeadlineLemmas
+mod InputRunLemmas
 mod LineRunLemmas
+mod LineSaidLemmas
 mod LinesRanLemmas
 mod NamedRunLemmas
 mod RunLemmas

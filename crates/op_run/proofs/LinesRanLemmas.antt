@@ -1,19 +1,20 @@
 -- What was written of the lines of an input so far.
-use Rattle.std.proofs.Common.{◌≡◌, ℕ, ◌+◌, ◌-◌, ◌≤◌, Bool, true, ◌&&◌, List, [], ◌∷◌, ◌++◌, length, Option, Result, Ok, Err, OnErr, refl, sym, ap, subst, ◌∙◌, append-nil, append_assoc, arith}
+use Rattle.std.proofs.Common.{◌≡◌, ℕ, ◌+◌, ◌-◌, ◌<◌, ◌≤◌, Bool, true, ◌&&◌, List, [], ◌∷◌, ◌++◌, length, Option, Ok, Err, refl, sym, ap, subst, ◌∙◌, append-nil, append_assoc, arith}
 use Rattle.std.specs.Io.KnownBytes.{Appends}
 use Rattle.cfg_types.specs.declared.config.Config.{Config}
-use Rattle.op_edges.specs.declared.lines.Line.{Line}
-use Rattle.op_edges.specs.Lines.{Reading, new_reading, shown_lines}
+use Rattle.op_edges.specs.Lines.{Reading, new_reading, most_bytes, shown_lines}
 use Rattle.op_edges.specs.Streams.{AppendsPrefix}
 use Rattle.op_edges.proofs.StreamLemmas.{appends_nothing, appends_twice, appends_same, prefix_after}
 use Rattle.op_report.specs.ReadBack.{report_bytes}
-use Rattle.srv_run.specs.Served.{Served}
+use Rattle.srv_run.specs.Served.{Served, Serving}
 use Rattle.op_run.specs.Lines.{said_by, served_by, all_said}
-use Rattle.op_run.specs.declared.lines.Next.{Next}
+use Rattle.op_run.specs.declared.lines.Next.TheVariants.{More, Ends, Stops}
 use Rattle.op_run.specs.declared.stop.Stop.{Stop}
-use Rattle.op_run.specs.LineRuns.{IfStops, OneMore, LinesRan, next_of_result}
+use Rattle.op_run.specs.declared.stop.Stop.TheVariants.{Memory}
+use Rattle.op_run.specs.InputRuns.{InputRan}
+use Rattle.op_run.specs.LineRuns.{LineRan, OneMore, LinesRan}
 use Rattle.op_run.specs.WellAnswered.{all_well}
-use Rattle.op_run.proofs.ReportLemmas.{and_assoc, and_true, bytes-append, well-append, prefix_of_more, none_is_prefix}
+use Rattle.op_run.proofs.ReportLemmas.{and_assoc, and_true, bytes-append, well-append, none_is_prefix}
 
 -- no line was run
 pub lines_begin : (config : Config) (start : Served) (all : List ℕ) (told : Option (List ℕ)) → LinesRan config start all told told start 0 all true
@@ -75,21 +76,6 @@ pub lines_begin_at : (config : Config) (start : Served) (all : List ℕ) (told :
 lines_begin_at config start all told reader is =
     subst (λ (r : Reading). LinesRan config start all told told start r.line (r.held ++ all) true) (sym is) (lines_begin config start all told)
 
--- a run that stopped within a line has written a part of all that was to come
-pub stopped_in : (config : Config) (served : Served) (count number : ℕ) (line : Line) (coming left : List ℕ) (a b : Option (List ℕ)) (result : Result Bool Stop) (next : Next)
-    → shown_lines coming ≡ line ∷ shown_lines left → number ≡ count + 1 → next ≡ next_of_result result
-    → OnErr result (AppendsPrefix a b (report_bytes (said_by config served number line)))
-    → IfStops next (λ stop. AppendsPrefix a b (report_bytes (all_said config served count (shown_lines coming))))
-stopped_in config served count number line coming left a b (Ok well) next first counted is part =
-    subst (λ (n : Next). IfStops n (λ stop. AppendsPrefix a b (report_bytes (all_said config served count (shown_lines coming))))) (sym is) tt
-stopped_in config served count number line coming left a b (Err stop) next first counted is part =
-    let rest = all_said config (served_by config served line) (count + 1) (shown_lines left) in
-    subst (λ (n : Next). IfStops n (λ stop. AppendsPrefix a b (report_bytes (all_said config served count (shown_lines coming))))) (sym is)
-    (subst (AppendsPrefix a b)
-    (sym (ap (λ lines. report_bytes (all_said config served count lines)) first ∙ bytes-append (said_by config served (count + 1) line) rest))
-    (prefix_of_more a b (report_bytes (said_by config served (count + 1) line)) (report_bytes rest)
-    (subst (λ n. AppendsPrefix a b (report_bytes (said_by config served n line))) counted part)))
-
 -- at the end, all that came was given
 pub all_given : (held after bytes : List ℕ) (came came_before left_before most : ℕ) → held ++ after ≡ [] → came - length held ≤ most
     → came + length after ≡ came_before + left_before → came_before + left_before ≡ length bytes → length bytes ≤ most
@@ -101,3 +87,49 @@ all_given (b ∷ held) after bytes came came_before left_before most none within
 pub nothing_behind : (held left : List ℕ) → held ++ left ≡ [] → left ≡ []
 nothing_behind [] left none = none
 nothing_behind (b ∷ held) left none = absurd (omega (arith, ap length none))
+
+-- A run from its start: a reader that took nothing, before all of the bytes.
+pub lines_start : (start : Serving) (reader : Reading) (told : Option (List ℕ)) (all : List ℕ) → reader ≡ new_reading
+    → LinesRan start.config start.served all told told start.served reader.line (reader.held ++ all) true × (reader.came + length all ≡ length all)
+lines_start start reader told all is =
+    (lines_begin_at start.config start.served all told reader is, omega (arith, ap (λ (r : Reading). r.came) is))
+
+-- The run so far, and what comes next: `all` were left of the source at the start, and `coming` are left now.
+module _ (start server : Serving) (reader : Reading) (a b : Option (List ℕ)) (all coming : List ℕ) (good : Bool) (config : server.config ≡ start.config)
+    (so_far : LinesRan start.config start.served all a b server.served reader.line (reader.held ++ coming) good × (reader.came + length coming ≡ length all)) where
+  -- one more line
+  pub lines_on : (next : Serving) (read : Reading) (c : Option (List ℕ)) (left : List ℕ) (well joined : Bool) → joined ≡ (good && well)
+      → LineRan (More well) server next reader read b c coming left
+      → LinesRan start.config start.served all a c next.served read.line (read.held ++ left) joined × (read.came + length left ≡ length all)
+  lines_on next read c left well joined is_joined (one, on) = (
+    lines_next start.config start.served all a b c server.served next.served reader.line read.line (reader.held ++ coming) (read.held ++ left) good well joined so_far.0
+        (subst (λ config. OneMore config server.served reader.line (reader.held ++ coming) (read.held ++ left) b c next.served read.line well) config one) is_joined,
+    on ∙ so_far.1,
+  )
+
+  -- no line is left
+  pub lines_end : (next : Serving) (read : Reading) (c : Option (List ℕ)) (left : List ℕ) → LineRan Ends server next reader read b c coming left
+      → InputRan (Ok good) (report_bytes (all_said start.config start.served 0 (shown_lines all))) (all_well (all_said start.config start.served 0 (shown_lines all))) a c all left
+  lines_end next read c left (ends, on) = record {
+    written = subst (λ o. Appends a o (report_bytes (all_said start.config start.served 0 (shown_lines all)))) (sym ends.kept)
+        (lines_done start.config start.served all a b server.served reader.line (reader.held ++ coming) good ends.none so_far.0);
+    same = lines_well start.config start.served all a b server.served reader.line (reader.held ++ coming) good ends.none so_far.0;
+    read = all_given read.held left all read.came reader.came (length coming) most_bytes ends.behind ends.within on so_far.1;
+    whole = nothing_behind read.held left ends.behind;
+  }
+
+  -- a line stopped
+  pub lines_stop : (stop : Stop) (next : Serving) (read : Reading) (c : Option (List ℕ)) (left : List ℕ) → LineRan (Stops stop) server next reader read b c coming left
+      → InputRan (Err stop) (report_bytes (all_said start.config start.served 0 (shown_lines all))) (all_well (all_said start.config start.served 0 (shown_lines all))) a c all left
+  lines_stop stop next read c left within = record {
+    part = lines_stopped start.config start.served all a b c server.served reader.line (reader.held ++ coming) good so_far.0
+        (subst (λ config. AppendsPrefix b c (report_bytes (all_said config server.served reader.line (shown_lines (reader.held ++ coming))))) config within.part);
+    limit = λ is. subst (λ n. most_bytes + length left < n) so_far.1 (within.limit is);
+  }
+
+  -- more lines than can be counted
+  pub lines_out : InputRan (Err Memory) (report_bytes (all_said start.config start.served 0 (shown_lines all))) (all_well (all_said start.config start.served 0 (shown_lines all))) a b all coming
+  lines_out = record {
+    part = lines_part start.config start.served all a b server.served reader.line (reader.held ++ coming) good so_far.0;
+    limit = λ is. absurd (cc);
+  }

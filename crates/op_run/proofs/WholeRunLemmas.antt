@@ -1,5 +1,5 @@
 -- A run's lines and its configuration: the files', then the input's, then the text of what is present.
-use Rattle.std.proofs.Common.{◌≡◌, ℕ, Bool, ◌&&◌, List, [], ◌∷◌, ◌++◌, Option, sym, ap, subst, ◌∙◌, append_assoc}
+use Rattle.std.proofs.Common.{◌≡◌, ℕ, Bool, ◌&&◌, List, [], ◌∷◌, ◌++◌, Option, Ok, Err, sym, ap, subst, ◌∙◌, append_assoc}
 use Rattle.std.specs.Io.KnownBytes.{Appends}
 use Rattle.op_edges.specs.Lines.{shown_lines}
 use Rattle.op_edges.specs.Streams.{AppendsPrefix}
@@ -13,9 +13,12 @@ use Rattle.op_thin.specs.Objects.{Present, nothing}
 use Rattle.srv_run.specs.Served.{Served, Serving, new_serving}
 use Rattle.tenant_world.specs.Runs.{beginning, run, left_by}
 use Rattle.op_run.specs.declared.files.NamedFile.{NamedFile}
+use Rattle.op_run.specs.declared.stop.Stop.{Stop}
+use Rattle.op_run.specs.InputRuns.{InputRan}
 use Rattle.op_run.specs.Inputs.{file_events, events_from, events_of}
 use Rattle.op_run.specs.Lines.{all_said}
 use Rattle.op_run.specs.Outputs.{present, final_text, run_reports, run_text}
+use Rattle.op_run.specs.Stops.{IsWriting}
 use Rattle.op_run.specs.WellAnswered.{all_well}
 use Rattle.op_run.proofs.ReportLemmas.{bytes-append, well-append, prefix_of_more}
 use Rattle.op_run.proofs.LineRunLemmas.{run-append, left_by-append, lines_run, lines_left}
@@ -55,7 +58,7 @@ module _ (files : List NamedFile) (bytes : List ℕ) (objects : Present) (served
       ∙ append_assoc (report_bytes ones) (report_bytes others) last
 
   -- all was written
-  pub wrote_run : (a b c : Option (List ℕ)) → Appends a b (report_bytes (run beginning (file_events files)))
+  wrote_run : (a b c : Option (List ℕ)) → Appends a b (report_bytes (run beginning (file_events files)))
       → Appends b c (report_bytes (all_said (config_of objects) served 0 (shown_lines bytes)) ++ (config_text (config_of objects) ++ NEWLINE ∷ []))
       → Appends a c (run_text files bytes)
   wrote_run a b c first second =
@@ -63,20 +66,40 @@ module _ (files : List NamedFile) (bytes : List ℕ) (objects : Present) (served
       (appends_twice a b c (report_bytes ones) (report_bytes others ++ last) first second)
 
   -- the files' lines were written, and a part of the rest
-  pub wrote_part : (a b c : Option (List ℕ)) → Appends a b (report_bytes (run beginning (file_events files)))
+  wrote_part : (a b c : Option (List ℕ)) → Appends a b (report_bytes (run beginning (file_events files)))
       → AppendsPrefix b c (report_bytes (all_said (config_of objects) served 0 (shown_lines bytes)) ++ (config_text (config_of objects) ++ NEWLINE ∷ []))
       → AppendsPrefix a c (run_text files bytes)
   wrote_part a b c first part =
       subst (AppendsPrefix a c) (sym whole) (prefix_after a b c (report_bytes ones) (report_bytes others ++ last) first part)
 
   -- both are answered well
-  pub well_run : (good well joined : Bool) → good ≡ all_well (run beginning (file_events files))
+  well_run : (good well joined : Bool) → good ≡ all_well (run beginning (file_events files))
       → well ≡ all_well (all_said (config_of objects) served 0 (shown_lines bytes)) → joined ≡ (good && well) → joined ≡ all_well (run_reports files bytes)
   well_run good well joined one other is_joined =
       is_joined ∙ ap (λ b. b && well) one ∙ ap (λ b. all_well ones && b) other ∙ sym (well-append ones others) ∙ sym (ap all_well reports)
 
+  -- the run came to its end
+  pub whole_ran : (a b c : Option (List ℕ)) (after : List ℕ) → Appends a b (report_bytes (run beginning (file_events files)))
+      → (good well joined : Bool) → good ≡ all_well (run beginning (file_events files)) → joined ≡ (good && well)
+      → InputRan (Ok well) (report_bytes (all_said (config_of objects) served 0 (shown_lines bytes)) ++ (config_text (config_of objects) ++ NEWLINE ∷ []))
+      (all_well (all_said (config_of objects) served 0 (shown_lines bytes))) b c bytes after
+      → InputRan (Ok joined) (run_text files bytes) (all_well (run_reports files bytes)) a c bytes after
+  whole_ran a b c after first good well joined one is_joined ran = record {
+    written = wrote_run a b c first ran.written;
+    same = well_run good well joined one ran.same is_joined;
+    read = ran.read;
+    whole = ran.whole;
+  }
+
+  -- it stopped behind the files
+  pub part_ran : (a b c : Option (List ℕ)) (after : List ℕ) → Appends a b (report_bytes (run beginning (file_events files))) → (stop : Stop)
+      → InputRan (Err stop) (report_bytes (all_said (config_of objects) served 0 (shown_lines bytes)) ++ (config_text (config_of objects) ++ NEWLINE ∷ []))
+      (all_well (all_said (config_of objects) served 0 (shown_lines bytes))) b c bytes after
+      → InputRan (Err stop) (run_text files bytes) (all_well (run_reports files bytes)) a c bytes after
+  part_ran a b c after first stop ran = record { part = wrote_part a b c first ran.part; limit = ran.limit }
+
 -- a part of the files' lines was written
-pub wrote_some : (files : List NamedFile) (bytes : List ℕ) (a b : Option (List ℕ)) → AppendsPrefix a b (report_bytes (run beginning (file_events files)))
+wrote_some : (files : List NamedFile) (bytes : List ℕ) (a b : Option (List ℕ)) → AppendsPrefix a b (report_bytes (run beginning (file_events files)))
     → AppendsPrefix a b (run_text files bytes)
 wrote_some files bytes a b part =
     let first = run beginning (file_events files) in
@@ -86,3 +109,9 @@ wrote_some files bytes a b part =
     (sym (ap (λ l. l ++ last) (ap report_bytes (run-append beginning (file_events files) (events_from 0 (shown_lines bytes))) ∙ bytes-append first more)
     ∙ append_assoc (report_bytes first) (report_bytes more) last))
     (prefix_of_more a b (report_bytes first) (report_bytes more ++ last) part)
+
+-- the run stopped within the files
+pub files_stop : (files : List NamedFile) (bytes : List ℕ) (a b : Option (List ℕ)) (stop : Stop) → AppendsPrefix a b (report_bytes (run beginning (file_events files)))
+    → IsWriting stop → InputRan (Err stop) (run_text files bytes) (all_well (run_reports files bytes)) a b bytes bytes
+files_stop files bytes a b stop part writing =
+    record { part = wrote_some files bytes a b part; limit = λ is. absurd (subst IsWriting is writing) }

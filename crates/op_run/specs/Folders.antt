@@ -8,6 +8,7 @@ use Rattle.op_run.specs.declared.files.NamedFile.{NamedFile}
 abbrev pub most_file_bytes : ℕ
 most_file_bytes = 67108864
 
+-- the name of a manifest's file
 abbrev pub is_manifest_name : List ℕ → Bool
 is_manifest_name name = ends_with nat_eq name (codes ".json")
 

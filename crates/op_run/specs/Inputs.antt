@@ -13,6 +13,7 @@ use Rattle.op_run.specs.declared.files.NamedFile.{NamedFile}
 abbrev pub file_event : NamedFile → Event
 file_event file = manifest file.name (item_of file.bytes)
 
+-- an event for each file, in order
 abbrev pub file_events : List NamedFile → List Event
 file_events files = map file_event files
 

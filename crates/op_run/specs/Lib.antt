@@ -1,5 +1,6 @@
 pub mod Folders
 pub mod Headline
+pub mod InputRuns
 pub mod Inputs
 pub mod LineRuns
 pub mod Lines

@@ -8,5 +8,6 @@ use Rattle.op_report.specs.Lines.{answers_well}
 abbrev pub is_well : Report → Bool
 is_well report = answers_well report.view
 
+-- each report has good answers alone
 abbrev pub all_well : List Report → Bool
 all_well reports = list_all is_well reports

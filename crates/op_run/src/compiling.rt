@@ -6,6 +6,7 @@ ghost use Rattle.op_report.specs.Lines.{NEWLINE};
 ghost use Rattle.op_report.specs.ReadBack.{report_bytes};
 ghost use Rattle.cfg_types.specs.Written.{config_text};
 ghost use Rattle.op_thin.specs.Compiled.{config_of};
+ghost use Rattle.srv_run.specs.Served.{new_serving};
 ghost use Rattle.op_run.specs.Outputs.{reports_of, configuration_of};
 ghost use Rattle.op_run.specs.Stops.{IsWriting};
 ghost use Rattle.op_run.specs.WellAnswered.{all_well};
@@ -43,12 +44,39 @@ pub fn compile_files<O: Sink, E: Sink>(
     ensures later { E.faults err.old ≤ E.faults err.new }
     ensures kinds { IfErr result IsWriting }
 {
+    match Server::new(alloc) {
+        Ok(mut server) => compile_with(alloc, files, &mut server, out, err),
+        Err(_) => Err(Stop::Memory),
+    }
+}
+
+// The same, over a server that was told nothing.
+fn compile_with<O: Sink, E: Sink>(
+    alloc: Global,
+    files: &[NamedFile],
+    server: &mut Server,
+    out: &mut O,
+    err: &mut E,
+) -> Result<bool, Stop>
+    requires { server.old ≡ new_serving }
+    ensures lines { OnOk result (Appends (E.taken err.old) (E.taken err.new)
+        (report_bytes (reports_of files.now))) }
+    ensures configuration { OnOk result (Appends (O.taken out.old)
+        (O.taken out.new) (configuration_of files.now)) }
+    ensures good { IfOk result (λ good. good ≡ all_well (reports_of files.now)) }
+    ensures stopped_lines { OnErr result (AppendsPrefix (E.taken err.old) (E.taken err.new)
+        (report_bytes (reports_of files.now))) }
+    ensures stopped_configuration { OnErr result (AppendsPrefix (O.taken out.old)
+        (O.taken out.new) (configuration_of files.now)) }
+    ensures order { (out.new ≡ out.old)
+        ⊎ Appends (E.taken err.old) (E.taken err.new) (report_bytes (reports_of files.now)) }
+    ensures failed { IfErr result (λ stop. stop ≡ Stop.Output
+        → Rose (O.faults out.old) (O.faults out.new) ⊎ Rose (E.faults err.old) (E.faults err.new)) }
+    ensures later { E.faults err.old ≤ E.faults err.new }
+    ensures kinds { IfErr result IsWriting }
+{
     let mut objects = Objects::new(alloc);
-    let mut server = match Server::new(alloc) {
-        Ok(server) => server,
-        Err(_) => return Err(Stop::Memory),
-    };
-    match report_files(alloc, files, &mut objects, &mut server, err) {
+    match report_files(alloc, files, &mut objects, server, err) {
         Ok(good) => match write_configuration(alloc, objects, out) {
             Ok(()) => Ok(good),
             Err(stop) => Err(stop),

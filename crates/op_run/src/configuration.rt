@@ -1,6 +1,6 @@
 ghost use Rattle.std.specs.Prelude.{◌≡◌, ◌++◌, ◌∷◌, [], IfOk};
 ghost use Rattle.op_report.specs.Lines.{NEWLINE};
-ghost use Rattle.cfg_types.specs.Written.{config_text};
+ghost use Rattle.cfg_types.specs.Written.{HasSpans, config_text};
 ghost use Rattle.op_thin.specs.Compiled.{config_of};
 ghost use Rattle.srv_run.specs.Served.{CanRun};
 
@@ -16,7 +16,16 @@ pub fn configuration(alloc: Global, objects: Objects) -> Result<(Config, List<u8
     ensures text { IfOk result (λ made. made.1 ≡ config_text (config_of objects) ++ NEWLINE ∷ []) }
 {
     let config = compile_objects(alloc, objects)?;
-    let mut bytes = text(alloc, &config)?;
-    bytes.push(b'\n')?;
+    let bytes = text_line(alloc, &config)?;
     Ok((config, bytes))
+}
+
+// The text of the configuration, with a newline.
+fn text_line(alloc: Global, config: &Config) -> Result<List<u8>, NoMemory>
+    requires { HasSpans config.now }
+    ensures { IfOk result (λ bytes. bytes ≡ config_text config.now ++ NEWLINE ∷ []) }
+{
+    let mut bytes = text(alloc, config)?;
+    bytes.push(b'\n')?;
+    Ok(bytes)
 }

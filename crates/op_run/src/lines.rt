@@ -1,11 +1,9 @@
-ghost use Rattle.std.specs.Prelude.{◌≡◌, ◌≤◌, ◌<◌, ◌+◌, ◌++◌, [], length, true, IfOk, IfErr, OnOk, OnErr};
-ghost use Rattle.std.specs.Io.KnownBytes.{Appends};
-ghost use Rattle.op_edges.specs.Causes.{Rose};
+ghost use Rattle.std.specs.Prelude.{◌≡◌, true};
 ghost use Rattle.op_edges.specs.Told.{Told};
-ghost use Rattle.op_edges.specs.Streams.{AppendsPrefix};
-ghost use Rattle.op_edges.specs.Lines.{given, most_bytes, shown_lines};
+ghost use Rattle.op_edges.specs.Lines.{shown_lines};
 ghost use Rattle.op_report.specs.ReadBack.{report_bytes};
-ghost use Rattle.op_run.specs.LineRuns.{IfMore, IfEnds, IfStops, OneMore, next_of_result};
+ghost use Rattle.op_run.specs.InputRuns.{InputRan, RunCauses};
+ghost use Rattle.op_run.specs.LineRuns.{IfMore, LineRan, NextCauses, next_of_result};
 ghost use Rattle.op_run.specs.Lines as spec;
 ghost use Rattle.op_run.specs.WellAnswered.{all_well};
 
@@ -24,27 +22,13 @@ pub fn run_lines<S: Source, O: Sink>(
     server: &mut Server,
     sink: &mut O,
 ) -> Result<bool, Stop>
-    ensures lines { Told (S.left source.old) (S.left source.new)
-        (λ before after. OnOk result (Appends (O.taken sink.old) (O.taken sink.new)
-        (report_bytes (spec.all_said server.old.config server.old.served 0 (shown_lines before))))) }
-    ensures good { Told (S.left source.old) (S.left source.new) (λ before after. IfOk result
-        (λ good. good
-        ≡ all_well (spec.all_said server.old.config server.old.served 0 (shown_lines before)))) }
-    ensures prefix { Told (S.left source.old) (S.left source.new)
-        (λ before after. OnErr result (AppendsPrefix (O.taken sink.old) (O.taken sink.new)
-        (report_bytes (spec.all_said server.old.config server.old.served 0 (shown_lines before))))) }
-    ensures within { Told (S.left source.old) (S.left source.new)
-        (λ before after. OnOk result (length before ≤ most_bytes)) }
-    ensures whole { Told (S.left source.old) (S.left source.new)
-        (λ before after. OnOk result (after ≡ [])) }
-    ensures limit { Told (S.left source.old) (S.left source.new) (λ before after. IfErr result
-        (λ stop. stop ≡ Stop.Limit → most_bytes + length after < length before)) }
-    ensures input { IfErr result (λ stop. stop ≡ Stop.Input
-        → Rose (S.faults source.old) (S.faults source.new)) }
-    ensures output { IfErr result (λ stop. stop ≡ Stop.Output
-        → Rose (O.faults sink.old) (O.faults sink.new)) }
-    ensures later_input { S.faults source.old ≤ S.faults source.new }
-    ensures later_output { O.faults sink.old ≤ O.faults sink.new }
+    ensures ran { Told (S.left source.old) (S.left source.new) (λ before after.
+        InputRan result
+        (report_bytes (spec.all_said server.old.config server.old.served 0 (shown_lines before)))
+        (all_well (spec.all_said server.old.config server.old.served 0 (shown_lines before)))
+        (O.taken sink.old) (O.taken sink.new) before after) }
+    ensures causes { RunCauses result (S.faults source.old) (S.faults source.new)
+        (O.faults sink.old) (O.faults sink.new) }
 {
     let mut reader = match LineReader::new(alloc) {
         Ok(reader) => reader,
@@ -62,7 +46,6 @@ pub fn run_lines<S: Source, O: Sink>(
 }
 
 /// What running one more line came to.
-#[derive(Clone, Copy, Debug, PartialEq, Eq)]
 pub enum Next {
     /// The line was run; its reports have good answers alone, or not.
     More(bool),
@@ -79,34 +62,13 @@ fn run_line<S: Source, O: Sink>(
     sink: &mut O,
 ) -> Next
     requires { reader.old.going ≡ true }
-    ensures more { Told (S.left source.old) (S.left source.new) (λ before after. IfMore result
-        (λ well.
-        OneMore server.old.config server.old.served reader.old.line (reader.old.held
-        ++ before) (reader.new.held ++ after)
-        (O.taken sink.old) (O.taken sink.new) server.new.served reader.new.line well)) }
+    ensures ran { Told (S.left source.old) (S.left source.new) (λ before after.
+        LineRan result server.old server.new reader.old reader.new
+        (O.taken sink.old) (O.taken sink.new) before after) }
     ensures going { IfMore result (λ well. (reader.new.going ≡ true)
         × (server.new.config ≡ server.old.config)) }
-    ensures ends { Told (S.left source.old) (S.left source.new) (λ before after. IfEnds result
-        ((reader.old.held ++ before ≡ []) × (reader.new.held ++ after ≡ [])
-        × (O.taken sink.new ≡ O.taken sink.old) × (given reader.new ≤ most_bytes))) }
-    ensures stops { Told (S.left source.old) (S.left source.new) (λ before after. IfStops result
-        (λ stop.
-        AppendsPrefix (O.taken sink.old) (O.taken sink.new)
-        (report_bytes (spec.all_said server.old.config server.old.served reader.old.line (shown_lines (reader.old.held ++ before)))))) }
-    ensures sum { Told (S.left source.old) (S.left source.new) (λ before after. IfMore result
-        (λ well.
-        reader.new.came + length after ≡ reader.old.came + length before)) }
-    ensures end_sum { Told (S.left source.old) (S.left source.new) (λ before after. IfEnds result
-        (reader.new.came + length after ≡ reader.old.came + length before)) }
-    ensures limit { Told (S.left source.old) (S.left source.new) (λ before after. IfStops result
-        (λ stop. stop ≡ Stop.Limit
-        → most_bytes + length after < reader.old.came + length before)) }
-    ensures input { IfStops result (λ stop. stop ≡ Stop.Input
-        → Rose (S.faults source.old) (S.faults source.new)) }
-    ensures output { IfStops result (λ stop. stop ≡ Stop.Output
-        → Rose (O.faults sink.old) (O.faults sink.new)) }
-    ensures later_input { S.faults source.old ≤ S.faults source.new }
-    ensures later_output { O.faults sink.old ≤ O.faults sink.new }
+    ensures causes { NextCauses result (S.faults source.old) (S.faults source.new)
+        (O.faults sink.old) (O.faults sink.new) }
 {
     match reader.next(source) {
         Ok(Line::Whole(bytes)) => next_of(say_whole(

@@ -59,13 +59,10 @@ fn take_rule(
     ensures named { IfOk result (λ report. IfSome report.to
         (λ namespace. is_namespace namespace ≡ true)) }
 {
-    let namespace = rule.namespace.clone()?;
-    let key = key_text(alloc, Kind::PrometheusRule, &rule.namespace, &rule.name)?;
+    let (namespace, key) = key_of(alloc, Kind::PrometheusRule, &rule.namespace, &rule.name)?;
     let broken = rule.judged.skip_rule();
     if objects.put_rule(rule)? {
-        let report = answered(alloc, &namespace, key, broken)?;
-        make_known(server, namespace)?;
-        Ok(report)
+        taken(alloc, namespace, key, broken, server)
     } else {
         not_yet(file)
     }
@@ -87,15 +84,30 @@ fn take_probe(
     ensures named { IfOk result (λ report. IfSome report.to
         (λ namespace. is_namespace namespace ≡ true)) }
 {
-    let namespace = probe.namespace.clone()?;
-    let key = key_text(alloc, Kind::Probe, &probe.namespace, &probe.name)?;
+    let (namespace, key) = key_of(alloc, Kind::Probe, &probe.namespace, &probe.name)?;
     if objects.put_probe(probe)? {
-        let report = answered(alloc, &namespace, key, None)?;
-        make_known(server, namespace)?;
-        Ok(report)
+        taken(alloc, namespace, key, None, server)
     } else {
         not_yet(file)
     }
+}
+
+// What is said of an object that was taken, whose namespace is known from then on.
+fn taken(
+    alloc: Global,
+    namespace: Text,
+    key: Text,
+    broken: Option<&str>,
+    server: &mut Server,
+) -> Result<Report, NoMemory>
+    requires { is_namespace namespace ≡ true }
+    ensures report { IfOk result (λ report. report
+        ≡ spec.to_owner namespace (spec.answered key (option_map (λ rule. rule.now) broken.entry))) }
+    ensures known { OnOk result (server.new.served ≡ with_known server.old.served namespace) }
+{
+    let report = answered(alloc, &namespace, key, broken)?;
+    make_known(server, namespace)?;
+    Ok(report)
 }
 
 fn make_known(server: &mut Server, namespace: Text) -> Result<(), NoMemory>
@@ -132,6 +144,20 @@ fn not_yet(file: &Text) -> Result<Report, NoMemory>
             item: 0,
         },
     })
+}
+
+// The namespace, and the text of the key.
+fn key_of(
+    alloc: Global,
+    kind: Kind,
+    namespace: &Text,
+    name: &Text,
+) -> Result<(Text, Text), NoMemory>
+    ensures { IfOk result (λ parts. (parts.0 ≡ namespace.now)
+        × (parts.1 ≡ spec.key_of kind namespace.now name.now)) }
+{
+    let key = key_text(alloc, kind, namespace, name)?;
+    Ok((namespace.clone()?, key))
 }
 
 fn key_text(alloc: Global, kind: Kind, namespace: &Text, name: &Text) -> Result<Text, NoMemory>

@@ -1,4 +1,4 @@
-ghost use Rattle.std.specs.Prelude.{◌≡◌, ◌≤◌, ◌<◌, ◌+◌, ◌++◌, ◌∷◌, [], length, IfOk, IfErr, OnOk, OnErr};
+ghost use Rattle.std.specs.Prelude.{◌≡◌, ◌<◌, ◌≤◌, ◌+◌, ◌++◌, ◌∷◌, [], length, IfOk, IfErr, OnOk, OnErr};
 ghost use Rattle.std.specs.Io.KnownBytes.{Appends};
 ghost use Rattle.op_edges.specs.Causes.{Rose};
 ghost use Rattle.op_edges.specs.Told.{Told};
@@ -8,6 +8,8 @@ ghost use Rattle.op_report.specs.Lines.{NEWLINE};
 ghost use Rattle.op_report.specs.ReadBack.{report_bytes};
 ghost use Rattle.cfg_types.specs.Written.{config_text};
 ghost use Rattle.op_thin.specs.Compiled.{config_of};
+ghost use Rattle.srv_run.specs.Served.{new_serving};
+ghost use Rattle.op_run.specs.InputRuns.{InputRan, RunCauses};
 ghost use Rattle.op_run.specs.Lines.{all_said};
 ghost use Rattle.op_run.specs.Outputs.{run_reports, run_text};
 ghost use Rattle.op_run.specs.WellAnswered.{all_well};
@@ -51,12 +53,45 @@ pub fn run_files<S: Source, O: Sink>(
     ensures output { IfErr result (λ stop. stop ≡ Stop.Output
         → Rose (O.faults out.old) (O.faults out.new)) }
 {
+    files_and_input(alloc, files, input, out)
+}
+
+// The files, and then the lines of the input, with what was written of both in one.
+fn files_and_input<S: Source, O: Sink>(
+    alloc: Global,
+    files: &[NamedFile],
+    input: &mut S,
+    out: &mut O,
+) -> Result<bool, Stop>
+    ensures ran { Told (S.left input.old) (S.left input.new) (λ bytes after.
+        InputRan result (run_text files.now bytes) (all_well (run_reports files.now bytes))
+        (O.taken out.old) (O.taken out.new) bytes after) }
+    ensures causes { RunCauses result (S.faults input.old) (S.faults input.new)
+        (O.faults out.old) (O.faults out.new) }
+{
+    match Server::new(alloc) {
+        Ok(mut server) => run_both(alloc, files, &mut server, input, out),
+        Err(_) => Err(Stop::Memory),
+    }
+}
+
+// The same, over a server that was told nothing.
+fn run_both<S: Source, O: Sink>(
+    alloc: Global,
+    files: &[NamedFile],
+    server: &mut Server,
+    input: &mut S,
+    out: &mut O,
+) -> Result<bool, Stop>
+    requires { server.old ≡ new_serving }
+    ensures ran { Told (S.left input.old) (S.left input.new) (λ bytes after.
+        InputRan result (run_text files.now bytes) (all_well (run_reports files.now bytes))
+        (O.taken out.old) (O.taken out.new) bytes after) }
+    ensures causes { RunCauses result (S.faults input.old) (S.faults input.new)
+        (O.faults out.old) (O.faults out.new) }
+{
     let mut objects = Objects::new(alloc);
-    let mut server = match Server::new(alloc) {
-        Ok(server) => server,
-        Err(_) => return Err(Stop::Memory),
-    };
-    match report_files(alloc, files, &mut objects, &mut server, out) {
+    match report_files(alloc, files, &mut objects, server, out) {
         Ok(good) => match run_configured(alloc, objects, server, input, out) {
             Ok(well) => Ok(both(good, well)),
             Err(stop) => Err(stop),
@@ -69,78 +104,50 @@ pub fn run_files<S: Source, O: Sink>(
 fn run_configured<S: Source, O: Sink>(
     alloc: Global,
     objects: Objects,
-    server: Server,
+    server: &mut Server,
     input: &mut S,
     out: &mut O,
 ) -> Result<bool, Stop>
-    ensures text { Told (S.left input.old) (S.left input.new)
-        (λ bytes after. OnOk result (Appends (O.taken out.old) (O.taken out.new)
-        (report_bytes (all_said (config_of objects) server.served 0 (shown_lines bytes)) ++
-        (config_text (config_of objects) ++ NEWLINE ∷ [])))) }
-    ensures good { Told (S.left input.old) (S.left input.new) (λ bytes after. IfOk result (λ good.
-        good ≡ all_well (all_said (config_of objects) server.served 0 (shown_lines bytes)))) }
-    ensures stopped { Told (S.left input.old) (S.left input.new)
-        (λ bytes after. OnErr result (AppendsPrefix (O.taken out.old) (O.taken out.new)
-        (report_bytes (all_said (config_of objects) server.served 0 (shown_lines bytes)) ++
-        (config_text (config_of objects) ++ NEWLINE ∷ [])))) }
-    ensures read { Told (S.left input.old) (S.left input.new)
-        (λ bytes after. OnOk result (length bytes ≤ most_bytes)) }
-    ensures whole { Told (S.left input.old) (S.left input.new)
-        (λ bytes after. OnOk result (after ≡ [])) }
-    ensures limit { Told (S.left input.old) (S.left input.new) (λ bytes after.
-        IfErr result (λ stop. stop ≡ Stop.Limit → most_bytes + length after < length bytes)) }
-    ensures input { IfErr result (λ stop. stop ≡ Stop.Input
-        → Rose (S.faults input.old) (S.faults input.new)) }
-    ensures output { IfErr result (λ stop. stop ≡ Stop.Output
-        → Rose (O.faults out.old) (O.faults out.new)) }
-    ensures later { O.faults out.old ≤ O.faults out.new }
+    ensures ran { Told (S.left input.old) (S.left input.new) (λ bytes after. InputRan result
+        (report_bytes (all_said (config_of objects) server.old.served 0 (shown_lines bytes)) ++
+        (config_text (config_of objects) ++ NEWLINE ∷ []))
+        (all_well (all_said (config_of objects) server.old.served 0 (shown_lines bytes)))
+        (O.taken out.old) (O.taken out.new) bytes after) }
+    ensures causes { RunCauses result (S.faults input.old) (S.faults input.new)
+        (O.faults out.old) (O.faults out.new) }
 {
-    match loaded(alloc, objects, server) {
-        Ok((server, text)) => run_loaded(alloc, server, text.as_slice(), input, out),
+    match load(alloc, objects, server) {
+        Ok(text) => run_loaded(alloc, server, text.as_slice(), input, out),
         Err(_) => Err(Stop::Memory),
     }
 }
 
-// The server with the configuration of the objects, and its text with a newline.
-fn loaded(alloc: Global, objects: Objects, server: Server) -> Result<(Server, List<u8>), NoMemory>
-    ensures server { IfOk result (λ made. made.0 ≡ record server { config = config_of objects }) }
-    ensures text { IfOk result (λ made. made.1 ≡ config_text (config_of objects) ++ NEWLINE ∷ []) }
+// Loads the configuration of the objects. Answers its text with a newline.
+fn load(alloc: Global, objects: Objects, server: &mut Server) -> Result<List<u8>, NoMemory>
+    ensures server { OnOk result (server.new ≡ record server.old { config = config_of objects }) }
+    ensures text { IfOk result (λ text. text ≡ config_text (config_of objects) ++ NEWLINE ∷ []) }
 {
-    let mut server = server;
     let (config, text) = configuration(alloc, objects)?;
     server.load(config)?;
-    Ok((server, text))
+    Ok(text)
 }
 
+// The input's lines over the configuration that the server runs, and then the text.
 fn run_loaded<S: Source, O: Sink>(
     alloc: Global,
-    server: Server,
+    server: &mut Server,
     text: &[u8],
     input: &mut S,
     out: &mut O,
 ) -> Result<bool, Stop>
-    ensures text { Told (S.left input.old) (S.left input.new)
-        (λ bytes after. OnOk result (Appends (O.taken out.old) (O.taken out.new)
-        (report_bytes (all_said server.config server.served 0 (shown_lines bytes)) ++ text.now))) }
-    ensures good { Told (S.left input.old) (S.left input.new) (λ bytes after. IfOk result (λ good.
-        good ≡ all_well (all_said server.config server.served 0 (shown_lines bytes)))) }
-    ensures stopped { Told (S.left input.old) (S.left input.new)
-        (λ bytes after. OnErr result (AppendsPrefix (O.taken out.old) (O.taken out.new)
-        (report_bytes (all_said server.config server.served 0 (shown_lines bytes)) ++ text.now))) }
-    ensures read { Told (S.left input.old) (S.left input.new)
-        (λ bytes after. OnOk result (length bytes ≤ most_bytes)) }
-    ensures whole { Told (S.left input.old) (S.left input.new)
-        (λ bytes after. OnOk result (after ≡ [])) }
-    ensures limit { Told (S.left input.old) (S.left input.new) (λ bytes after.
-        IfErr result (λ stop. stop ≡ Stop.Limit → most_bytes + length after < length bytes)) }
-    ensures input { IfErr result (λ stop. stop ≡ Stop.Input
-        → Rose (S.faults input.old) (S.faults input.new)) }
-    ensures output { IfErr result (λ stop. stop ≡ Stop.Output
-        → Rose (O.faults out.old) (O.faults out.new)) }
-    ensures later { O.faults out.old ≤ O.faults out.new }
+    ensures ran { Told (S.left input.old) (S.left input.new) (λ bytes after. InputRan result
+        (report_bytes (all_said server.old.config server.old.served 0 (shown_lines bytes)) ++ text.now)
+        (all_well (all_said server.old.config server.old.served 0 (shown_lines bytes)))
+        (O.taken out.old) (O.taken out.new) bytes after) }
+    ensures causes { RunCauses result (S.faults input.old) (S.faults input.new)
+        (O.faults out.old) (O.faults out.new) }
 {
-    let mut server = server;
-    match run_lines(alloc, input, &mut server, out) {
+    match run_lines(alloc, input, server, out) {
         Ok(good) => match put_all(out, text) {
             Ok(()) => Ok(good),
             Err(_) => Err(Stop::Output),

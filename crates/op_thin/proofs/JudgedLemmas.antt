@@ -1,5 +1,5 @@
 -- What an expression that is taken has: a type, and patterns that are patterns.
-use Rattle.std.proofs.Common.{◌≡◌, ◌≢◌, ℕ, ◌⊎◌, inl, inr, Bool, true, false, cond, ◌&&◌, not, List, [], ◌∷◌, ◌++◌, map, filter, Option, Some, None, IsSome, option_map, option_and_then, refl, ap, sym, subst, ◌∙◌}
+use Rattle.std.proofs.Common.{◌≡◌, ◌≢◌, ℕ, ◌⊎◌, inl, inr, Bool, true, false, cond, ◌&&◌, not, List, [], ◌∷◌, ◌++◌, map, filter, Option, Some, None, IsSome, option_map, option_and_then, true≢false, refl, ap, sym, subst, ◌∙◌}
 use Rattle.std.specs.Option.{option_map_or}
 use Rattle.std.specs.List.{AllByRecursion, list_all}
 use Rattle.op_base.specs.declared.matcher.Matcher.{Matcher}
@@ -24,7 +24,7 @@ use Rattle.ql_tree.proofs.NodeLemmas.{out-Number, out-Str, out-Select, out-Unary
 use Rattle.ql_parse.specs.Trees.{tree_of}
 use Rattle.op_thin.specs.declared.judged.Judged.TheVariants.{Tree, IllTyped, Nameless}
 use Rattle.op_thin.specs.CompiledPatterns.{NodeHasPatterns}
-use Rattle.op_thin.specs.Judged.{judged, judged_tree, judged_typed, judged_named, IsTyped}
+use Rattle.op_thin.specs.Judged.{judged, judged_tree, judged_typed, judged_named, is_valued, IsTyped}
 use Rattle.op_thin.specs.Nameless.{has_nameless}
 
 -- a text that is no pattern matches nothing
@@ -33,37 +33,38 @@ no_match None value is = refl
 no_match (Some found) value is = cc
 
 -- what the type says of the shape
-pub typed_scalar : (e : Expr) (s : Option Shape) → option_map type_of_shape s ≡ Some type.Scalar → judged_typed e s ≡ judged_named e
-typed_scalar e None is = cc
-typed_scalar e (Some shape.Scalar) is = refl
-typed_scalar e (Some shape.Vector) is = cc
-typed_scalar e (Some shape.Range) is = cc
-typed_scalar e (Some (shape.Str text)) is = cc
+abbrev pub is_value : Option ExprType → Bool
+is_value None = false
+is_value (Some type.Scalar) = true
+is_value (Some type.Vector) = true
+is_value (Some type.Range) = false
+is_value (Some type.Str) = false
 
-pub typed_vector : (e : Expr) (s : Option Shape) → option_map type_of_shape s ≡ Some type.Vector → judged_typed e s ≡ judged_named e
-typed_vector e None is = cc
-typed_vector e (Some shape.Scalar) is = cc
-typed_vector e (Some shape.Vector) is = refl
-typed_vector e (Some shape.Range) is = cc
-typed_vector e (Some (shape.Str text)) is = cc
+pub value_of : (s : Option Shape) → is_value (option_map type_of_shape s) ≡ is_valued s
+value_of None = refl
+value_of (Some shape.Scalar) = refl
+value_of (Some shape.Vector) = refl
+value_of (Some shape.Range) = refl
+value_of (Some (shape.Str text)) = refl
 
-pub typed_range : (e : Expr) (s : Option Shape) → option_map type_of_shape s ≡ Some type.Range → judged_typed e s ≡ IllTyped
-typed_range e None is = cc
-typed_range e (Some shape.Scalar) is = cc
-typed_range e (Some shape.Vector) is = cc
-typed_range e (Some shape.Range) is = refl
-typed_range e (Some (shape.Str text)) is = cc
+pub untyped : (s : Option Shape) → ((t : ExprType) → option_map type_of_shape s ≢ Some t) → is_valued s ≡ false
+untyped None none = refl
+untyped (Some found) none = absurd (none (type_of_shape found) refl)
 
-pub typed_string : (e : Expr) (s : Option Shape) → option_map type_of_shape s ≡ Some type.Str → judged_typed e s ≡ IllTyped
-typed_string e None is = cc
-typed_string e (Some shape.Scalar) is = cc
-typed_string e (Some shape.Vector) is = cc
-typed_string e (Some shape.Range) is = cc
-typed_string e (Some (shape.Str text)) is = refl
+-- what is a value is judged by its names, and what isn't, is no rule's
+pub valued : (e : Expr) (s : Option Shape) → is_valued s ≡ true → judged_typed e s ≡ judged_named e
+valued e None is = absurd (true≢false (sym is))
+valued e (Some shape.Scalar) is = refl
+valued e (Some shape.Vector) is = refl
+valued e (Some shape.Range) is = absurd (true≢false (sym is))
+valued e (Some (shape.Str text)) is = absurd (true≢false (sym is))
 
-pub untyped : (e : Expr) (s : Option Shape) → ((t : ExprType) → option_map type_of_shape s ≢ Some t) → judged_typed e s ≡ IllTyped
-untyped e None none = refl
-untyped e (Some found) none = absurd (none (type_of_shape found) refl)
+pub not_valued : (e : Expr) (s : Option Shape) → is_valued s ≡ false → judged_typed e s ≡ IllTyped
+not_valued e None is = refl
+not_valued e (Some shape.Scalar) is = absurd (true≢false is)
+not_valued e (Some shape.Vector) is = absurd (true≢false is)
+not_valued e (Some shape.Range) is = refl
+not_valued e (Some (shape.Str text)) is = refl
 
 -- what is taken has a type
 named_typed : (e : Expr) → Typed e type.Scalar ⊎ Typed e type.Vector → IsTyped (judged_named e)

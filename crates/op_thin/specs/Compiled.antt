@@ -21,6 +21,7 @@ use Rattle.op_thin.specs.Objects.{Present, all_of}
 use Rattle.op_thin.specs.FileOrder.{in_order}
 use Rattle.op_thin.specs.ThinProbes.{job_name}
 
+-- the label that keeps namespaces apart
 abbrev pub ENFORCED_LABEL : List ℕ
 ENFORCED_LABEL = codes "namespace"
 
@@ -36,9 +37,11 @@ config_rule rule = record {
   labels = (ENFORCED_LABEL, rule.namespace) ∷ [];
 }
 
+-- the rule group of one recording rule
 abbrev pub group_of : Recording → Group
 group_of rule = record { name = rule.group; rules = config_rule rule ∷ [] }
 
+-- the rule file of one recording rule, of its object's namespace and name
 abbrev pub file_of : Recording → RuleFile
 file_of rule = record { namespace = rule.namespace; name = rule.name; groups = group_of rule ∷ [] }
 
@@ -59,6 +62,7 @@ probe_steps probe =
 abbrev pub INTERVAL : Span
 INTERVAL = record { 0 = pos 30000 }
 
+-- ten seconds
 abbrev pub TIMEOUT : Span
 TIMEOUT = record { 0 = pos 10000 }
 

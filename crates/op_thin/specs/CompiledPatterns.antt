@@ -14,6 +14,7 @@ use Rattle.ql_tree.specs.declared.tree.Expr.TheViews.{out-Expr}
 abbrev pub JobHasPatterns : Job → Type 0
 JobHasPatterns job = HasPatterns job.relabel_configs × HasPatterns job.metric_relabel_configs
 
+-- each job has its patterns
 abbrev pub JobsHavePatterns : Config → Type 0
 JobsHavePatterns config = AllByRecursion JobHasPatterns config.prometheus.jobs
 
@@ -32,8 +33,10 @@ NodeHasPatterns (Expr-F.Aggregate op grouping param of) = Unit {0}
 abbrev pub RuleHasPatterns : Rule → Type 0
 RuleHasPatterns rule = NodeHasPatterns (out-Expr rule.expr)
 
+-- each rule of the file has its patterns
 abbrev pub FileHasPatterns : RuleFile → Type 0
 FileHasPatterns file = AllByRecursion (λ group. AllByRecursion RuleHasPatterns group.rules) file.groups
 
+-- each rule file has its patterns
 abbrev pub RulesHavePatterns : Config → Type 0
 RulesHavePatterns config = AllByRecursion FileHasPatterns config.rules

@@ -22,6 +22,7 @@ item_of_objects (Some rule) probe = Rule rule
 item_of_objects None (Some probe) = Probe probe
 item_of_objects None None = NotYet
 
+-- what a value is, where the bytes are JSON at all
 abbrev pub item_of_json : Option Data → Item
 item_of_json None = Broken
 item_of_json (Some d) = item_of_objects (thin_rule_of d) (thin_probe_of d)

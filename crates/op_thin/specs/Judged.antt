@@ -1,5 +1,5 @@
 -- What the expression of a rule comes to: its tree, or the rule of admission that it breaks first.
-use Rattle.std.specs.Prelude.{ℕ, ◌⊎◌, List, Option, Some, None, codes, if◌then◌else◌}
+use Rattle.std.specs.Prelude.{ℕ, ◌⊎◌, Bool, true, false, List, Option, Some, None, codes, if◌then◌else◌}
 use Rattle.ql_parse.specs.Trees.{tree_of}
 use Rattle.ql_tree.specs.Typed.{Typed, shape_of}
 use Rattle.ql_tree.specs.declared.tree.Expr.{Expr}
@@ -22,6 +22,15 @@ judged_typed e (Some shape.Vector) = judged_named e
 judged_typed e (Some shape.Range) = IllTyped
 judged_typed e (Some (shape.Str text)) = IllTyped
 
+-- there is a shape, and it is a scalar's or a vector's
+abbrev pub is_valued : Option Shape → Bool
+is_valued None = false
+is_valued (Some shape.Scalar) = true
+is_valued (Some shape.Vector) = true
+is_valued (Some shape.Range) = false
+is_valued (Some (shape.Str text)) = false
+
+-- what the tree of an expression comes to, where there is a tree
 abbrev pub judged_tree : Option Expr → Judged
 judged_tree None = NotExpr
 judged_tree (Some e) = judged_typed e (shape_of e)

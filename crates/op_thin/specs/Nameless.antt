@@ -27,6 +27,7 @@ is_nameless (Expr-F.Binary op boolean m left right) = false
 is_nameless (Expr-F.Call function args) = false
 is_nameless (Expr-F.Aggregate op grouping param of) = false
 
+-- a node is a nameless selector, or there is one among its children
 abbrev pub nameless_step : Expr-F Bool → Bool
 nameless_step node = is_nameless node || list_any (λ below. below) (children_of node)
 

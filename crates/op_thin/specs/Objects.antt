@@ -33,10 +33,12 @@ fits there count = there || nat_lt count MOST_OBJECTS
 abbrev pub count_in : Present → List ℕ → ℕ
 count_in objects namespace = length (inner_at objects.rules namespace) + length (inner_at objects.probes namespace)
 
+-- there is room for the rule: it takes the place of one, or its namespace isn't full
 abbrev pub rule_fits : Present → ThinRule → Bool
 rule_fits objects rule =
     fits (is_some (value_at (inner_at objects.rules rule.namespace) rule.name)) (count_in objects rule.namespace)
 
+-- there is room for the probe: it takes the place of one, or its namespace isn't full
 abbrev pub probe_fits : Present → ThinProbe → Bool
 probe_fits objects probe =
     fits (is_some (value_at (inner_at objects.probes probe.namespace) probe.name)) (count_in objects probe.namespace)
@@ -48,10 +50,12 @@ is_taken objects NotYet = false
 is_taken objects (Rule rule) = rule_fits objects rule
 is_taken objects (Probe probe) = probe_fits objects probe
 
+-- the rule is put in its place
 abbrev pub with_rule : Present → ThinRule → Present
 with_rule objects rule =
     record { rules = with_inner objects.rules rule.namespace rule.name rule; probes = objects.probes }
 
+-- the probe is put in its place
 abbrev pub with_probe : Present → ThinProbe → Present
 with_probe objects probe =
     record { rules = objects.rules; probes = with_inner objects.probes probe.namespace probe.name probe }

@@ -7,9 +7,11 @@ use Rattle.serde_json.specs.Data.{Data, null, boolean, number, string, array, ob
 use Rattle.serde_json.specs.Find.{get, as_str, as_null}
 use Rattle.op_base.specs.Names.{is_namespace, is_name}
 
+-- both texts are the same
 abbrev pub is_text : List ℕ → List ℕ → Bool
 is_text these those = pointwise ◌==◌ these those
 
+-- the value is null
 abbrev pub is_null : Data → Bool
 is_null d = is_some (as_null d)
 
@@ -37,6 +39,7 @@ only_item no_items = None
 only_item (item d no_items) = Some d
 only_item (item d (item e ds)) = None
 
+-- the item of an array that has one alone
 abbrev pub only_item_of : Data → Option Data
 only_item_of null = None
 only_item_of (boolean b) = None
@@ -50,9 +53,11 @@ abbrev pub checked : (List ℕ → Bool) → Option (List ℕ) → Option (List 
 checked test None = None
 checked test (Some t) = if test t then Some t else None
 
+-- the text of a field, where it is one
 abbrev pub text_at : List ℕ → Data → Option (List ℕ)
 text_at name d = option_and_then as_str (get name d)
 
+-- what two values make, where both are there
 abbrev pub both : {A B C : Type 0} → (A → B → C) → Option A → Option B → Option C
 both f None b = None
 both f (Some a) None = None

@@ -37,6 +37,7 @@ spec_of d = option_and_then (λ spec. both (λ url target. (url, target))
     (option_and_then targets_of (get (codes "targets") spec)))
     (with_only (codes "prober" ∷ codes "targets" ∷ []) d)
 
+-- the probe of a namespace and a name, of a prober's URL and a target
 abbrev pub probe_from : List ℕ × List ℕ → List ℕ × List ℕ → ThinProbe
 probe_from names parts = record { namespace = names.0; name = names.1; url = parts.0; target = parts.1 }
 

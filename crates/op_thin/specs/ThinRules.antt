@@ -26,6 +26,7 @@ abbrev pub spec_of : Data → Option (List ℕ × (List ℕ × List ℕ))
 spec_of d = option_and_then (λ spec. option_and_then group_of (only_item_at (codes "groups") spec))
     (with_only (codes "groups" ∷ []) d)
 
+-- the rule of a namespace and a name, of a group's name, the name that it records and its expression
 abbrev pub rule_from : List ℕ × List ℕ → List ℕ × (List ℕ × List ℕ) → ThinRule
 rule_from names group = record {
   namespace = names.0;

@@ -62,19 +62,34 @@ fn jobs_of(alloc: Global, probes: List<ThinProbe>) -> Result<List<Job>, NoMemory
 fn job_of(alloc: Global, probe: ThinProbe) -> Result<Job, NoMemory>
     ensures { IfOk result (λ job. job ≡ spec.job_of probe) }
 {
+    probe_job(alloc, &probe)
+}
+
+fn probe_job(alloc: Global, probe: &ThinProbe) -> Result<Job, NoMemory>
+    ensures { IfOk result (λ job. job ≡ spec.job_of probe.now) }
+{
     Ok(Job {
         honor_labels: false,
-        job_name: job_name(alloc, &probe)?,
-        metric_relabel_configs: list_of(alloc, enforced_step(alloc, &probe)?)?,
+        job_name: job_name(alloc, probe)?,
+        metric_relabel_configs: list_of(alloc, enforced_step(alloc, probe)?)?,
         metrics_path: Text::from_str(alloc, "/probe")?,
-        relabel_configs: probe_steps(alloc, &probe)?,
+        relabel_configs: probe_steps(alloc, probe)?,
         scheme: Text::from_str(alloc, "http")?,
         scrape_interval: Span(30_000),
         scrape_timeout: Span(10_000),
-        static_configs: StaticConfig {
-            labels: enforced_labels(alloc, &probe.namespace)?,
-            targets: list_of(alloc, probe.target)?,
-        },
+        static_configs: static_config(alloc, probe)?,
+    })
+}
+
+fn static_config(alloc: Global, probe: &ThinProbe) -> Result<StaticConfig, NoMemory>
+    ensures { IfOk result (λ config. config ≡ record {
+      labels = (spec.ENFORCED_LABEL, probe.now.namespace) ∷ [];
+      targets = probe.now.target ∷ [];
+    }) }
+{
+    Ok(StaticConfig {
+        labels: enforced_labels(alloc, &probe.namespace)?,
+        targets: list_of(alloc, probe.target.clone()?)?,
     })
 }
 
@@ -139,26 +154,35 @@ fn place(alloc: Global, files: &mut Table<RuleFile>, rule: Recording) -> Result<
 fn file_from(alloc: Global, rule: Recording) -> Result<RuleFile, NoMemory>
     ensures { IfOk result (λ file. file ≡ spec.file_of rule) }
 {
-    let Recording {
-        namespace,
-        name,
-        group,
-        record_name,
-        tree,
-    } = rule;
-    let rule = Rule {
-        name: record_name,
-        expr: enforced_expr(alloc, &tree, &namespace)?,
-        labels: enforced_labels(alloc, &namespace)?,
-    };
-    let group = Group {
-        name: group,
-        rules: list_of(alloc, rule)?,
-    };
+    rule_file(alloc, &rule)
+}
+
+fn rule_file(alloc: Global, rule: &Recording) -> Result<RuleFile, NoMemory>
+    ensures { IfOk result (λ file. file ≡ spec.file_of rule.now) }
+{
     Ok(RuleFile {
-        namespace,
-        name,
-        groups: list_of(alloc, group)?,
+        namespace: rule.namespace.clone()?,
+        name: rule.name.clone()?,
+        groups: list_of(alloc, rule_group(alloc, rule)?)?,
+    })
+}
+
+fn rule_group(alloc: Global, rule: &Recording) -> Result<Group, NoMemory>
+    ensures { IfOk result (λ group. group ≡ spec.group_of rule.now) }
+{
+    Ok(Group {
+        name: rule.group.clone()?,
+        rules: list_of(alloc, config_rule(alloc, rule)?)?,
+    })
+}
+
+fn config_rule(alloc: Global, rule: &Recording) -> Result<Rule, NoMemory>
+    ensures { IfOk result (λ made. made ≡ spec.config_rule rule.now) }
+{
+    Ok(Rule {
+        name: rule.record_name.clone()?,
+        labels: enforced_labels(alloc, &rule.namespace)?,
+        expr: enforced_expr(alloc, &rule.tree, &rule.namespace)?,
     })
 }
 

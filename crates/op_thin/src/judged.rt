@@ -10,6 +10,7 @@ use op_base::{MatchOp, Matcher, NoMemory, Pattern, PatternFault, Text};
 use ql_parse::{ParseFault, parse};
 use ql_tree::{Expr, ExprType, TypeFault, type_of};
 use std::alloc::Global;
+use std::mem::drop;
 
 /// What the expression of a rule comes to.
 #[derive(Debug, PartialEq, Eq, Drop)]
@@ -50,15 +51,28 @@ pub fn judge(alloc: Global, text: &str) -> Result<Judged, NoMemory>
     }
 }
 
+#[tactic(auto, using(crate::proofs::JudgedLemmas::valued, crate::proofs::JudgedLemmas::not_valued))]
 fn judge_tree(alloc: Global, expr: Expr) -> Result<Judged, NoMemory>
     ensures { IfOk result (λ judged. judged ≡ spec.judged_typed expr (shape_of expr)) }
 {
-    match type_of(alloc, &expr) {
-        Ok(ExprType::Scalar) => judge_named(alloc, expr),
-        Ok(ExprType::Vector) => judge_named(alloc, expr),
-        Ok(ExprType::Range) => Ok(Judged::IllTyped),
-        Ok(ExprType::Str) => Ok(Judged::IllTyped),
-        Err(TypeFault::IllTyped(_)) => Ok(Judged::IllTyped),
+    if is_valued(alloc, &expr)? {
+        judge_named(alloc, expr)
+    } else {
+        drop(expr);
+        Ok(Judged::IllTyped)
+    }
+}
+
+// Whether the expression has a type, and is a scalar or a vector.
+fn is_valued(alloc: Global, expr: &Expr) -> Result<bool, NoMemory>
+    ensures { IfOk result (λ valued. valued ≡ spec.is_valued (shape_of expr.now)) }
+{
+    match type_of(alloc, expr) {
+        Ok(ExprType::Scalar) => Ok(true),
+        Ok(ExprType::Vector) => Ok(true),
+        Ok(ExprType::Range) => Ok(false),
+        Ok(ExprType::Str) => Ok(false),
+        Err(TypeFault::IllTyped(_)) => Ok(false),
         Err(TypeFault::NoMemory) => Err(NoMemory),
     }
 }
@@ -67,6 +81,7 @@ fn judge_named(alloc: Global, expr: Expr) -> Result<Judged, NoMemory>
     ensures { IfOk result (λ judged. judged ≡ spec.judged_named expr) }
 {
     if has_nameless(alloc, &expr)? {
+        drop(expr);
         Ok(Judged::Nameless)
     } else {
         Ok(Judged::Tree(expr))

@@ -13,8 +13,6 @@ mod objects;
 mod probe;
 mod recording;
 mod rule;
-#[cfg(test)]
-mod tests;
 
 pub use compiled::compile;
 pub use item::{Item, item_names, item_of};

@@ -7,9 +7,10 @@ ghost use Rattle.op_thin.specs.Objects as spec;
 use crate::item::Item;
 use crate::probe::ThinProbe;
 use crate::rule::ThinRule;
-use op_base::{List, NoMemory, Table};
+use op_base::{List, NoMemory, Table, Text};
 use std::alloc::Global;
 use std::marker::Model;
+use std::mem::drop;
 
 /// How many objects a namespace may have.
 const MOST_OBJECTS: usize = 1000;
@@ -59,10 +60,10 @@ impl Objects {
     {
         let there = has(&self.rules, rule.namespace.as_str(), rule.name.as_str());
         if !there && !self.has_room(rule.namespace.as_str()) {
+            drop(rule);
             return Ok(false);
         }
-        let namespace = rule.namespace.clone()?;
-        let name = rule.name.clone()?;
+        let (namespace, name) = copied(&rule.namespace, &rule.name)?;
         self.rules.insert_in(self.alloc, namespace, name, rule)?;
         Ok(true)
     }
@@ -78,8 +79,7 @@ impl Objects {
         if !there && !self.has_room(probe.namespace.as_str()) {
             return Ok(false);
         }
-        let namespace = probe.namespace.clone()?;
-        let name = probe.name.clone()?;
+        let (namespace, name) = copied(&probe.namespace, &probe.name)?;
         self.probes.insert_in(self.alloc, namespace, name, probe)?;
         Ok(true)
     }
@@ -106,6 +106,12 @@ impl Objects {
             len_at(&self.probes, namespace),
         )
     }
+}
+
+fn copied(namespace: &Text, name: &Text) -> Result<(Text, Text), NoMemory>
+    ensures { IfOk result (λ texts. texts ≡ (namespace.now, name.now)) }
+{
+    Ok((namespace.clone()?, name.clone()?))
 }
 
 // Whether a namespace with so many rules and so many probes isn't full.

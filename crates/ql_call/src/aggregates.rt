@@ -7,7 +7,7 @@ ghost use Rattle.ql_call.specs.Elements.{values_in};
 ghost use Rattle.ql_call.specs.Ranked as ranks;
 ghost use Rattle.ql_call.specs.declared.outcome.Outcome.TheVariants.{Vector};
 
-use crate::labels::{only, without, without_name};
+use crate::labels::{only, with_label, without, without_name};
 use crate::numbers::{average, clamped, count, greatest, least, total};
 use crate::outcome::Outcome;
 use crate::ranked::best_of;
@@ -180,9 +180,15 @@ fn copied(alloc: Global, names: &[Text]) -> Result<List<Text>, NoMemory>
 {
     let mut copies = List::new(alloc);
     for name in names {
-        copies.push(Text::from_str(alloc, name.as_str())?)?;
+        copies.push(copy_of(alloc, name)?)?;
     }
     Ok(copies)
+}
+
+fn copy_of(alloc: Global, name: &Text) -> Result<Text, NoMemory>
+    ensures { IfOk result (λ copy. copy ≡ name.now) }
+{
+    Text::from_str(alloc, name.as_str())
 }
 
 // The elements, each with its value as a label.
@@ -208,8 +214,7 @@ fn push_with_decimal(
 ) -> Result<(), NoMemory>
     ensures { OnOk result (labelled.new ≡ labelled.old ++ spec.with_decimal label.now element.now ∷ []) }
 {
-    let mut labels = element.0.copy()?;
-    labels.set(label, decimal(alloc, &element.1)?.as_str())?;
+    let labels = with_label(&element.0, label, decimal(alloc, &element.1)?.as_str())?;
     labelled.push((labels, element.1))
 }
 

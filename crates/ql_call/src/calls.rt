@@ -13,6 +13,7 @@ use crate::function::{Function, RangeFunction};
 use crate::label_calls::{label_join, label_replace};
 use crate::naming::function_of;
 use crate::operand::{Operand, elements_at, scalar_at, text_at};
+use crate::operators::changed_to;
 use crate::outcome::Outcome;
 use crate::over_time::over;
 use crate::values::{Change, each_value, unnamed};
@@ -93,11 +94,10 @@ fn absent(alloc: Global, args: &[Operand]) -> Result<Outcome, NoMemory>
 fn one_where_empty<X>(alloc: Global, labels: &Labels, things: &[X]) -> Result<Outcome, NoMemory>
     ensures { IfOk result (λ o. o ≡ spec.one_where_empty labels.now things.now) }
 {
-    let mut vector = List::new(alloc);
-    if things.is_empty() {
-        vector.push((labels.copy()?, 1))?;
+    match things {
+        [] => only_element(alloc, labels.copy()?, &1),
+        [_, ..] => Ok(Outcome::Vector(List::new(alloc))),
     }
-    Ok(Outcome::Vector(vector))
 }
 
 // A function of a range, of each label set that has a sample in it.
@@ -149,11 +149,7 @@ fn over_changed(function: RangeFunction, labels: &Labels, value: &i64) -> Result
         ≡ changed_to labels.now (spec.over_labels function labels.now) value.now) }
 {
     match function {
-        RangeFunction::Last => Ok(Changed {
-            from: labels.copy()?,
-            to: labels.copy()?,
-            value: *value,
-        }),
+        RangeFunction::Last => changed_to(labels, labels.copy()?, value),
         _ => unnamed(labels, value),
     }
 }
@@ -244,7 +240,14 @@ fn seconds_of(t: &Moment) -> i64
 fn vector(alloc: Global, value: &i64) -> Result<Outcome, NoMemory>
     ensures { IfOk result (λ o. o ≡ outcome.Vector (([], value.now) ∷ [])) }
 {
+    only_element(alloc, Labels::new(alloc), value)
+}
+
+// A vector of one element.
+fn only_element(alloc: Global, labels: Labels, value: &i64) -> Result<Outcome, NoMemory>
+    ensures { IfOk result (λ o. o ≡ outcome.Vector ((labels, value.now) ∷ [])) }
+{
     let mut vector = List::new(alloc);
-    vector.push((Labels::new(alloc), *value))?;
+    vector.push((labels, *value))?;
     Ok(Outcome::Vector(vector))
 }

@@ -1,5 +1,6 @@
 // What neighbours among numbers, which stand with other things, say of a counter.
-ghost use Rattle.std.specs.Prelude.{◌≡◌, ◌^◌, ◌+ℤ◌, ◌≤ℤ◌, neg_ℤ, pos};
+ghost use Rattle.std.specs.Prelude.{◌≡◌, ◌≤◌, ◌^◌, ◌+ℤ◌, ◌≤ℤ◌, neg_ℤ, pos, not, int_lt};
+ghost use Rattle.std.specs.Ordering.{int_eq};
 ghost use Rattle.ql_call.specs.Numbers.{numbers_in};
 ghost use Rattle.ql_call.specs.Over as spec;
 
@@ -13,10 +14,19 @@ pub(crate) fn changes_in<X>(things: &[(X, i64)]) -> usize
     let mut count = 0;
     let mut earlier = first.1;
     for thing in later {
-        count += usize::from(earlier != thing.1);
-        earlier = thing.1;
+        let number = thing.1;
+        count += change(&earlier, &number);
+        earlier = number;
     }
     count
+}
+
+// 1 where the number changes.
+fn change(earlier: &i64, later: &i64) -> usize
+    ensures value { result ≡ spec.one_if (not (int_eq earlier.now later.now)) }
+    ensures most { result ≤ 1 }
+{
+    usize::from(*earlier != *later)
 }
 
 /// How many neighbours fall.
@@ -29,10 +39,19 @@ pub(crate) fn resets_in<X>(things: &[(X, i64)]) -> usize
     let mut count = 0;
     let mut earlier = first.1;
     for thing in later {
-        count += usize::from(thing.1 < earlier);
-        earlier = thing.1;
+        let number = thing.1;
+        count += fall(&earlier, &number);
+        earlier = number;
     }
     count
+}
+
+// 1 where the number falls.
+fn fall(earlier: &i64, later: &i64) -> usize
+    ensures value { result ≡ spec.one_if (int_lt later.now earlier.now) }
+    ensures most { result ≤ 1 }
+{
+    usize::from(*later < *earlier)
 }
 
 /// What a counter rose by in all. Fewer than 2^64 numbers of 64 bits have a sum of 128 bits: a number

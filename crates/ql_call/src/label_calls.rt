@@ -8,8 +8,9 @@ ghost use Rattle.ql_call.specs.Operands.{text_of as text_in};
 
 use crate::changed::Changed;
 use crate::clashes::gathered;
-use crate::labels::value_of;
+use crate::labels::{value_of, with_label};
 use crate::operand::{Operand, text_of};
+use crate::operators::changed_to;
 use crate::outcome::Outcome;
 use op_base::{Labels, List, NoMemory, Pattern, PatternFault, Text};
 use std::alloc::Global;
@@ -51,13 +52,15 @@ fn all_unchanged(alloc: Global, elements: &[(Labels, i64)]) -> Result<List<Chang
 {
     let mut changed = List::new(alloc);
     for element in elements {
-        changed.push(Changed {
-            from: element.0.copy()?,
-            to: element.0.copy()?,
-            value: element.1,
-        })?;
+        changed.push(unchanged(element)?)?;
     }
     Ok(changed)
+}
+
+fn unchanged(element: &(Labels, i64)) -> Result<Changed, NoMemory>
+    ensures { IfOk result (λ changed. changed ≡ steps.unchanged element.now) }
+{
+    changed_to(&element.0, element.0.copy()?, &element.1)
 }
 
 fn all_replaced(
@@ -90,22 +93,18 @@ fn push_replaced(
         ++ spec.replaced target.now replacement.now source.now pattern.now element.now ∷ []) }
 {
     let value = pattern.expand(value_of(&element.0, source), replacement)?;
-    changed.push(Changed {
-        from: element.0.copy()?,
-        to: replaced(&element.0, target, value)?,
-        value: element.1,
-    })
+    let to = replaced(&element.0, target, value)?;
+    changed.push(changed_to(&element.0, to, &element.1)?)
 }
 
 // The labels with the value at the target, where there is a value; an empty one removes the target.
 fn replaced(labels: &Labels, target: &str, value: Option<Text>) -> Result<Labels, NoMemory>
     ensures { IfOk result (λ to. to ≡ spec.replaced_by target.now labels.now value) }
 {
-    let mut to = labels.copy()?;
-    if let Some(text) = value {
-        to.set(target, text.as_str())?;
+    match value {
+        Some(text) => with_label(labels, target, text.as_str()),
+        None => labels.copy(),
     }
-    Ok(to)
 }
 
 /// The target has the values of the sources, with the separator between them.
@@ -154,13 +153,8 @@ fn push_joined(
         ++ spec.joined_to target.now separator.now (map text_in sources.now) element.now ∷ []) }
 {
     let value = joined(alloc, separator, sources, &element.0)?;
-    let mut to = element.0.copy()?;
-    to.set(target, value.as_str())?;
-    changed.push(Changed {
-        from: element.0.copy()?,
-        to,
-        value: element.1,
-    })
+    let to = with_label(&element.0, target, value.as_str())?;
+    changed.push(changed_to(&element.0, to, &element.1)?)
 }
 
 fn joined(
@@ -192,8 +186,14 @@ fn push_each(
         ++ steps.each_behind separator.now (map (label_value labels.now) (map text_in sources.now))) }
 {
     for source in sources {
-        text.push_str(separator)?;
-        text.push_str(value_of(labels, text_of(source)))?;
+        push_behind(text, separator, value_of(labels, text_of(source)))?;
     }
     Ok(())
+}
+
+fn push_behind(text: &mut Text, separator: &str, value: &str) -> Result<(), NoMemory>
+    ensures { OnOk result (text.new ≡ text.old ++ separator.now ++ value.now) }
+{
+    text.push_str(separator)?;
+    text.push_str(value)
 }

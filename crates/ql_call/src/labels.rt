@@ -24,9 +24,17 @@ pub(crate) fn only(alloc: Global, names: &[Text], labels: &Labels) -> Result<Lab
 {
     let mut kept = Labels::new(alloc);
     for name in names {
-        kept.set(name.as_str(), value_of(labels, name.as_str()))?;
+        include(&mut kept, name.as_str(), labels)?;
     }
     Ok(kept)
+}
+
+/// Puts the label of that name from others among the labels, or removes it where they lack it.
+pub(crate) fn include(labels: &mut Labels, name: &str, others: &Labels) -> Result<(), NoMemory>
+    ensures { OnOk result (labels.new
+        ≡ labels_with labels.old name.now (label_value others.now name.now)) }
+{
+    labels.set(name, value_of(others, name))
 }
 
 /// The labels of all other names.
@@ -38,6 +46,15 @@ pub(crate) fn without(names: &[Text], labels: &Labels) -> Result<Labels, NoMemor
         kept.remove(name.as_str());
     }
     Ok(kept)
+}
+
+/// The labels with this value at the name. An empty value removes the name.
+pub(crate) fn with_label(labels: &Labels, name: &str, value: &str) -> Result<Labels, NoMemory>
+    ensures { IfOk result (λ to. to ≡ labels_with labels.now name.now value.now) }
+{
+    let mut to = labels.copy()?;
+    to.set(name, value)?;
+    Ok(to)
 }
 
 /// The value of a label; a missing one is the empty text.

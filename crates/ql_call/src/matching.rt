@@ -8,7 +8,7 @@ use crate::arithmetic::number_of;
 use crate::changed::Changed;
 use crate::clashes::{Pair, first_clash, lesser, vector_unless};
 use crate::keys::{keyed, ones_by_key, partner_of, rekeyed};
-use crate::labels::{only, value_of, without};
+use crate::labels::{include, only, without};
 use crate::operators::{changed_to, named_by};
 use crate::outcome::Outcome;
 use op_base::{Labels, List, NoMemory, Text};
@@ -208,7 +208,7 @@ fn with_included(names: &[Text], one: &Labels, many: &Labels) -> Result<Labels, 
 {
     let mut labels = many.copy()?;
     for name in names {
-        labels.set(name.as_str(), value_of(one, name.as_str()))?;
+        include(&mut labels, name.as_str(), one)?;
     }
     Ok(labels)
 }

@@ -20,7 +20,8 @@ pub(crate) fn best_of(
 ) -> Result<List<(Labels, i64)>, NoMemory>
     ensures { IfOk result (λ kept. kept ≡ spec.best_of top k.now groups) }
 {
-    in_order(alloc, kept_of(alloc, top, k, groups)?)
+    let groups = groups.into_entries(alloc)?;
+    in_order(alloc, kept_of(alloc, top, k, groups.as_slice())?)
 }
 
 // What is kept of each group, one group after the other.
@@ -28,15 +29,27 @@ fn kept_of(
     alloc: Global,
     top: bool,
     k: &i64,
-    groups: LabelMap<List<(Labels, i64)>>,
+    groups: &[(Labels, List<(Labels, i64)>)],
 ) -> Result<List<(Labels, i64)>, NoMemory>
-    ensures { IfOk result (λ kept. kept ≡ flat_map (kept_of_group top k.now) groups) }
+    ensures { IfOk result (λ kept. kept ≡ flat_map (kept_of_group top k.now) groups.now) }
 {
     let mut kept = List::new(alloc);
-    for (_labels, group) in groups.into_entries(alloc)?.into_vec() {
-        kept.append(first_ranked(alloc, top, k, group.as_slice())?)?;
+    for group in groups {
+        keep_first(alloc, &mut kept, top, k, group)?;
     }
     Ok(kept)
+}
+
+fn keep_first(
+    alloc: Global,
+    kept: &mut List<(Labels, i64)>,
+    top: bool,
+    k: &i64,
+    group: &(Labels, List<(Labels, i64)>),
+) -> Result<(), NoMemory>
+    ensures { OnOk result (kept.new ≡ kept.old ++ kept_of_group top k.now group.now) }
+{
+    kept.append(first_ranked(alloc, top, k, group.1.as_slice())?)
 }
 
 // The first elements of a group, of which that number is kept.

@@ -9,6 +9,7 @@ use crate::changed::Changed;
 use crate::clashes::gathered;
 use crate::labels::without_name;
 use crate::numbers::clamped;
+use crate::operators::changed_to;
 use crate::outcome::Outcome;
 use op_base::{Labels, List, NoMemory};
 use std::alloc::Global;
@@ -87,9 +88,5 @@ fn size_of(value: &i64) -> i64
 pub(crate) fn unnamed(labels: &Labels, value: &i64) -> Result<Changed, NoMemory>
     ensures { IfOk result (λ changed. changed ≡ changed_to labels.now (without_name_of labels.now) value.now) }
 {
-    Ok(Changed {
-        from: labels.copy()?,
-        to: without_name(labels)?,
-        value: *value,
-    })
+    changed_to(labels, without_name(labels)?, value)
 }

@@ -5,16 +5,18 @@ use Rattle.ql_tree.specs.Operators.{is_comparison, sign_of}
 use Rattle.ql_tree.specs.Spells.{is_open}
 use Rattle.ql_tree.specs.declared.tree.BinaryOp.{BinaryOp}
 use Rattle.ql_tree.specs.declared.tree.Expr.{Expr}
+use Rattle.ql_tree.specs.declared.tree.Expr.TheVariants as expr
+use Rattle.ql_tree.specs.declared.tree.Matching.{Matching}
 use Rattle.ql_tree.specs.declared.word.Keyword.TheVariants as keyword
 use Rattle.ql_tree.specs.declared.word.Word.{Word}
 use Rattle.ql_tree.specs.declared.word.Word.TheVariants as word
-use Rattle.ql_parse.specs.Climbing.{atom_in, operand, chained, arguments_in, name_in, call_of}
-use Rattle.ql_parse.specs.Found.{Found, ◌>>=◌, first, behind, with_front}
+use Rattle.ql_parse.specs.Climbing.{atom_in, operand, chained, bracketed, arguments_in, operands_in, alone_in, both_in, with_param, name_in, call_of}
+use Rattle.ql_parse.specs.Found.{Found, ◌>>=◌, first, behind, with_front, fitting}
 use Rattle.ql_parse.specs.FrontWords.{is_close, is_comma, operator_at}
 use Rattle.ql_parse.specs.Gives.{Lacks}
-use Rattle.ql_parse.specs.ReadClauses.{boolean}
+use Rattle.ql_parse.specs.ReadClauses.{boolean, matching}
 use Rattle.ql_parse.specs.ReadSelectors.{selector}
-use Rattle.ql_parse.specs.ReadTerms.{atom, name, call, call_arguments, arguments}
+use Rattle.ql_parse.specs.ReadTerms.{Operated, atom, name, call, call_arguments, arguments, closed, operands, operands_behind}
 use Rattle.ql_parse.specs.Reading.{signed, sign_at, under_sign, turn, right, chain, level, within, whole}
 use Rattle.ql_parse.specs.declared.fault.ParseFault.{ParseFault}
 use Rattle.ql_parse.specs.declared.fault.ParseFault.TheVariants.{NotExpr, NoMemory}
@@ -125,6 +127,26 @@ module _ (k n d total step : ℕ) (left : Expr) (ts : List Word) where
   pub chain_spent : total ≤ step → chained k n d (total - step) left ts ≡ Some (left, ts)
   unfolding chain
   chain_spent past = let none : total - step ≡ 0 = omega arith in rw none refl
+
+-- what stands behind an operator
+module _ (k n d : ℕ) (left : Expr) (op : BinaryOp) (x : Bool × List Word) where
+  pub right_unmatched : (fault : ParseFault) → Lacks fault (matching n x.1)
+      → Lacks fault (right n d (operand k n d) left op x)
+  unfolding right
+  right_unmatched fault lacks = lacks_more fault (matching n x.1) _ lacks
+
+  pub right_lost : (fault : ParseFault) (m : Option Matching) (us : List Word)
+      → matching n x.1 ≡ Some (m, us) → Lacks fault (operand k n d us)
+      → Lacks fault (right n d (operand k n d) left op x)
+  unfolding right
+  right_lost fault m us is lacks = rw is (lacks_more fault (operand k n d us) _ lacks)
+
+  pub right_found : (m : Option Matching) (us ws : List Word) (of : Expr)
+      → matching n x.1 ≡ Some (m, us) → operand k n d us ≡ Some (of, ws)
+      → fitting d (expr.Binary op x.0 m (left ∷ []) (of ∷ [])) ws
+      ≡ right n d (operand k n d) left op x
+  unfolding right
+  right_found m us ws of is found = rw (is, found) refl
 
 -- levels
 level_up : (k n d : ℕ) (ts : List Word)
@@ -245,6 +267,54 @@ depth_pushed found new e before own grown is_before is_own =
     let all : depths (found ++ e ∷ [])
     ≡ max (depths found) (depths (e ∷ [])) = depths-append found (e ∷ []) in
     rw grown (omega (arith, all, is_before, is_own))
+
+-- an aggregate's operands
+closed_with : (e of : Expr) (closes : Option (List Word)) (both : Found Operated) (one : Found Expr)
+    → both ≡ (closes >>= λ rest. both_in e of rest)
+    → one ≡ (closes >>= λ (rest : List Word). Some (of, rest)) → both ≡ (one >>= with_param e)
+closed_with e of None both one is_both is_one = is_both ∙ ap (λ o. o >>= with_param e) (sym is_one)
+closed_with e of (Some rest) both one is_both is_one =
+    is_both ∙ ap (λ o. o >>= with_param e) (sym is_one)
+
+both_closed : (e : Expr) (read : Found Expr)
+    → (read >>= λ of. closed {A = Operated} (e ∷ [], of.0) of.1)
+    ≡ ((read >>= λ of. closed of.0 of.1) >>= with_param e)
+both_closed e None = refl
+both_closed e (Some of) = closed_with e of.0 (behind is_close of.1) _ _ refl refl
+
+module _ (n d : ℕ) (ts us : List Word) (e : Expr) (found : within n d ts ≡ Some (e, us)) where
+  pub operand_alone : behind is_comma us ≡ None → alone_in e us ≡ operands_in n d ts
+  unfolding operands
+  operand_alone is = rw (found, is) refl
+
+  operand_pair : (vs : List Word) → behind is_comma us ≡ Some vs
+      → operands_in n d ts ≡ (bracketed n d vs >>= with_param e)
+  unfolding operands
+  operand_pair vs is = rw (found, is) (both_closed e (within n d vs))
+
+  pub operand_both : (vs ws : List Word) (of : Expr) → behind is_comma us ≡ Some vs
+      → bracketed n d vs ≡ Some (of, ws) → both_in e of ws ≡ operands_in n d ts
+  operand_both vs ws of is read =
+      sym (operand_pair vs is ∙ ap (λ o. o >>= with_param e) read)
+
+  pub operand_fault : (fault : ParseFault) (vs : List Word) → behind is_comma us ≡ Some vs
+      → Lacks fault (bracketed n d vs) → Lacks fault (operands_in n d ts)
+  operand_fault fault vs is lacks =
+      lacks_same fault _ _ (operand_pair vs is)
+      (lacks_more fault (bracketed n d vs) (with_param e) lacks)
+
+operands_read : (n d : ℕ) (ts : List Word)
+    → operands_in n d ts
+    ≡ (within n d ts >>= λ e. operands_behind (within n d) e.0 e.1 (behind is_comma e.1))
+unfolding operands
+operands_read n d ts = refl
+
+pub operands_fault : (fault : ParseFault) (n d : ℕ) (ts : List Word)
+    → Lacks fault (within n d ts) → Lacks fault (operands_in n d ts)
+operands_fault fault n d ts lacks =
+    lacks_same fault _ _ (operands_read n d ts)
+    (lacks_more fault (within n d ts)
+    (λ e. operands_behind (within n d) e.0 e.1 (behind is_comma e.1)) lacks)
 
 -- the whole of the words
 pub whole_fault : (fault : ParseFault) (found : Found Expr) → Lacks fault found

@@ -5,6 +5,7 @@ use Rattle.ql_tree.specs.Tokens.{gap_at, token_at, token_of, with_token}
 use Rattle.ql_tree.specs.declared.token.Token.{Token}
 use Rattle.ql_tree.specs.declared.token.TokenKind.{TokenKind}
 
+-- the tokens of a text, or the place of the byte that no token begins at
 abbrev pub Tokens : Type 0
 Tokens = Result (List Token) ℕ
 

@@ -14,34 +14,42 @@ abbrev pub is_close : Word → Bool
 is_close word.Close = true
 is_close _ = false
 
+-- a comma
 abbrev pub is_comma : Word → Bool
 is_comma word.Comma = true
 is_comma _ = false
 
+-- an opening brace
 abbrev pub is_open_brace : Word → Bool
 is_open_brace word.OpenBrace = true
 is_open_brace _ = false
 
+-- a closing brace
 abbrev pub is_close_brace : Word → Bool
 is_close_brace word.CloseBrace = true
 is_close_brace _ = false
 
+-- an opening square bracket
 abbrev pub is_open_square : Word → Bool
 is_open_square word.OpenSquare = true
 is_open_square _ = false
 
+-- a closing square bracket
 abbrev pub is_close_square : Word → Bool
 is_close_square word.CloseSquare = true
 is_close_square _ = false
 
+-- a minus sign
 abbrev pub is_minus : Word → Bool
 is_minus word.Minus = true
 is_minus _ = false
 
+-- the word `offset`, in any letter case
 abbrev pub is_offset : Word → Bool
 is_offset (word.Name keyword.Offset text) = true
 is_offset _ = false
 
+-- the word `bool`, in any letter case
 abbrev pub is_bool : Word → Bool
 is_bool (word.Name keyword.Bool text) = true
 is_bool _ = false

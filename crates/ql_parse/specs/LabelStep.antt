@@ -14,6 +14,7 @@ steps_to m (Last text rest) = Some (text.now ∷ [], rest.now)
 steps_to m (More text rest) = with_front text.now (labels m rest.now)
 steps_to m Broken = None
 
+-- the step is what reading one label more does
 abbrev pub IsLabelStep : List Word → Step → Type 0
 IsLabelStep ts step = (m : ℕ) → labels (suc m) ts ≡ steps_to m step
 

@@ -15,6 +15,7 @@ steps_to m (Last one rest) = Some (one ∷ [], rest.now)
 steps_to m (More one rest) = with_front one (matchers m rest.now)
 steps_to m Broken = None
 
+-- the step is what reading one matcher more does
 abbrev pub IsMatcherStep : List Word → Step → Type 0
 IsMatcherStep ts step = (m : ℕ) → matchers (suc m) ts ≡ steps_to m step
 

@@ -6,6 +6,7 @@ use Rattle.ql_tree.specs.declared.tree.Expr.{Expr}
 use Rattle.ql_parse.specs.Cutting.{Tokens, tokens_in}
 use Rattle.ql_parse.specs.Reading.{read}
 
+-- the tree of the text's tokens, where it has tokens
 abbrev pub tree_from : List ℕ → Tokens → Option Expr
 tree_from text (Ok tokens) = read (map (word_in text) tokens)
 tree_from text (Err place) = None

@@ -1,4 +1,4 @@
-ghost use Rattle.std.specs.Prelude.{◌≡◌, length};
+ghost use Rattle.std.specs.Prelude.{◌≡◌, ◌++◌, ◌∷◌, [], length, OnOk};
 ghost use Rattle.ql_parse.specs.Gives.{Gives};
 ghost use Rattle.ql_parse.specs.LabelStep.{IsLabelStep, IsBehindLabel};
 ghost use Rattle.ql_parse.specs.ReadClauses as reading;
@@ -7,7 +7,7 @@ use crate::fault::ParseFault;
 use crate::fronts::{
     begins_open, bool_word, close, comma, grouping_word, label, matching_word, open, side_word,
 };
-use op_base::{List, Text};
+use op_base::{List, NoMemory, Text};
 use ql_tree::{Grouping, Matching, Side, Word};
 use std::alloc::Global;
 
@@ -56,17 +56,23 @@ fn labels(alloc: Global, words: &[Word]) -> Result<(List<Text>, &[Word]), ParseF
         match next_label(rest) {
             Step::End(behind) => return Ok((found, behind)),
             Step::Last(text, behind) => {
-                found.push(Text::from_str(alloc, text.as_str())?)?;
+                push_label(alloc, &mut found, text)?;
                 return Ok((found, behind));
             }
             Step::More(text, behind) => {
-                found.push(Text::from_str(alloc, text.as_str())?)?;
+                push_label(alloc, &mut found, text)?;
                 rest = behind;
             }
             Step::Broken => return Err(ParseFault::NotExpr),
         }
     }
     Err(ParseFault::NotExpr)
+}
+
+fn push_label(alloc: Global, found: &mut List<Text>, text: &Text) -> Result<(), NoMemory>
+    ensures { OnOk result (found.new ≡ found.old ++ text.now ∷ []) }
+{
+    found.push(Text::from_str(alloc, text.as_str())?)
 }
 
 /// Labels between round brackets, of which `room` may be opened.

@@ -6,16 +6,16 @@ ghost use Rattle.ql_tree.specs.declared.word.Word.TheVariants as word;
 ghost use Rattle.ql_parse.specs.Climbing as climbing;
 ghost use Rattle.ql_parse.specs.Gives.{Gives};
 ghost use Rattle.ql_parse.specs.ReadClauses as clauses;
-ghost use Rattle.ql_parse.specs.ReadTerms as terms;
 ghost use Rattle.ql_parse.specs.Reading as reading;
 
 use crate::clauses::{boolean, grouping, matching};
+use crate::endings::{alone, both, closed, grouped};
 use crate::fault::ParseFault;
 use crate::fronts::{Next, behind_item, close, comma, open, sign};
-use crate::nodes::{aggregated, binary, called, number, one, select, string, unary};
+use crate::nodes::{binary, called, discard, number, select, string, unary};
 use crate::operators::{is_comparison, operator};
 use op_base::{List, Text};
-use ql_tree::{AggregateOp, BinaryOp, Expr, Grouping, Keyword, Word};
+use ql_tree::{AggregateOp, BinaryOp, Expr, Keyword, Word};
 use std::alloc::Global;
 
 /// The tree that the words spell.
@@ -33,7 +33,10 @@ fn whole(expr: Expr, rest: &[Word]) -> Result<Expr, ParseFault>
 {
     match rest {
         [] => Ok(expr),
-        [_word, _more @ ..] => Err(ParseFault::NotExpr),
+        [_word, _more @ ..] => {
+            discard(expr);
+            Err(ParseFault::NotExpr)
+        }
     }
 }
 
@@ -131,7 +134,6 @@ fn chain<'a>(
 
 /// What stands behind a binary operator, and the tree of both sides.
 #[cycle(climbing)]
-#[tactic(auto, unfolding(crate::specs::Reading::right))]
 fn right<'a>(
     alloc: Global,
     below: usize,
@@ -151,9 +153,23 @@ fn right<'a>(
     ensures fits { IfOk result (λ x. x.1 ≤ limit) }
 {
     let (boolean, rest) = boolean(is_comparison(op), words);
-    let (matching, rest) = matching(alloc, room, rest)?;
-    let (of, depth, rest) = level(alloc, below, room, limit, rest)?;
-    binary(alloc, limit, op, boolean, matching, left, (of, depth), rest)
+    let (left, own) = left;
+    match matching(alloc, room, rest) {
+        Ok((matching, rest)) => match level(alloc, below, room, limit, rest) {
+            Ok((of, depth, rest)) => {
+                let (left, of) = ((left, own), (of, depth));
+                binary(alloc, limit, op, boolean, matching, left, of, rest)
+            }
+            Err(fault) => {
+                discard(left);
+                Err(fault)
+            }
+        },
+        Err(fault) => {
+            discard(left);
+            Err(fault)
+        }
+    }
 }
 
 /// Signs before an atom; each makes the tree deeper by one.
@@ -235,10 +251,7 @@ fn bracketed(
     ensures fits { IfOk result (λ x. x.1 ≤ limit) }
 {
     match within(alloc, room, limit, words) {
-        Ok((expr, depth, rest)) => match close(rest) {
-            Some(behind) => Ok((expr, depth, behind)),
-            None => Err(ParseFault::NotExpr),
-        },
+        Ok((expr, depth, rest)) => closed(expr, depth, rest),
         Err(fault) => Err(fault),
     }
 }
@@ -348,32 +361,14 @@ fn aggregate(
         None => Err(ParseFault::NotExpr),
         Some(rest) => {
             let (operands, rest) = operands(alloc, room, limit, rest)?;
-            let (grouping, rest) = grouping_behind(alloc, room, before, rest)?;
-            aggregated(alloc, limit, op, grouping, operands, rest)
+            grouped(alloc, room, limit, op, before, operands, rest)
         }
-    }
-}
-
-/// A grouping clause behind an aggregate's operands, where none stood before.
-#[tactic(auto, unfolding(crate::specs::ReadTerms::grouping_behind))]
-fn grouping_behind(
-    alloc: Global,
-    room: usize,
-    before: Option<Grouping>,
-    words: &[Word],
-) -> Result<(Option<Grouping>, &[Word]), ParseFault>
-    ensures { Gives (λ x. (x.0, x.1.now)) result (terms.grouping_behind room before words.now) }
-{
-    match before {
-        Some(before) => Ok((Some(before), words)),
-        None => grouping(alloc, room, words),
     }
 }
 
 /// An aggregate's parameter, if it has one, and what it is of, with the greater depth; and the
 /// bracket that closes them.
 #[cycle(climbing)]
-#[tactic(auto, unfolding(crate::specs::ReadTerms::operands))]
 fn operands(
     alloc: Global,
     room: usize,
@@ -386,18 +381,17 @@ fn operands(
     ensures depth { IfOk result
         (λ x. x.0.2 ≡ max (greatest (map depth_of x.0.0)) (depth_of x.0.1)) }
 {
-    let (first, depth, rest) = within(alloc, room, limit, words)?;
-    match comma(rest) {
-        None => match close(rest) {
-            Some(behind) => Ok(((List::new(alloc), first, depth), behind)),
-            None => Err(ParseFault::NotExpr),
+    match within(alloc, room, limit, words) {
+        Ok((first, depth, rest)) => match comma(rest) {
+            None => alone(alloc, first, depth, rest),
+            Some(behind) => match bracketed(alloc, room, limit, behind) {
+                Ok((of, own, end)) => both(alloc, first, of, depth.max(own), end),
+                Err(fault) => {
+                    discard(first);
+                    Err(fault)
+                }
+            },
         },
-        Some(rest) => {
-            let (of, own, rest) = within(alloc, room, limit, rest)?;
-            match close(rest) {
-                Some(behind) => Ok(((one(alloc, first)?, of, depth.max(own)), behind)),
-                None => Err(ParseFault::NotExpr),
-            }
-        }
+        Err(fault) => Err(fault),
     }
 }

@@ -5,6 +5,7 @@
 
 mod clauses;
 mod climbing;
+mod endings;
 mod fault;
 mod fronts;
 mod keywords;
@@ -18,6 +19,3 @@ mod words;
 
 pub use fault::ParseFault;
 pub use parser::{parse, trees_spell};
-
-#[cfg(test)]
-mod tests;

@@ -11,6 +11,9 @@ use op_base::{List, NoMemory, Text};
 use ql_tree::{AggregateOp, BinaryOp, Expr, Grouping, Matching, Word};
 use std::alloc::Global;
 
+/// Drops a tree that is of no use. Callers that would drop it themselves have longer proofs.
+pub(crate) fn discard(_expr: Expr) {}
+
 /// A list of one tree.
 pub(crate) fn one(alloc: Global, expr: Expr) -> Result<List<Expr>, NoMemory>
     ensures { IfOk result (λ list. list ≡ expr ∷ []) }
@@ -90,20 +93,49 @@ pub(crate) fn binary<'a>(
     ensures depth { IfOk result (λ x. x.1 ≡ depth_of x.0) }
     ensures fits { IfOk result (λ x. x.1 ≤ limit) }
 {
-    let depth = left.1.max(right.1);
+    let (left, left_depth) = left;
+    let (right, right_depth) = right;
+    let depth = left_depth.max(right_depth);
     if depth >= limit {
+        discard(left);
+        discard(right);
         return Err(ParseFault::NotExpr);
     }
-    let left = one(alloc, left.0)?;
-    let right = one(alloc, right.0)?;
-    let expr = Expr::Binary {
+    let expr = operated(alloc, op, boolean, matching, left, right)?;
+    Ok((expr, depth + 1, rest))
+}
+
+fn operated(
+    alloc: Global,
+    op: BinaryOp,
+    boolean: bool,
+    matching: Option<Matching>,
+    left: Expr,
+    right: Expr,
+) -> Result<Expr, NoMemory>
+    ensures { IfOk result (λ e. e
+        ≡ expr.Binary op boolean matching (left ∷ []) (right ∷ [])) }
+{
+    let (left, right) = one_each(alloc, left, right)?;
+    Ok(Expr::Binary {
         op,
         boolean,
         matching,
         left,
         right,
-    };
-    Ok((expr, depth + 1, rest))
+    })
+}
+
+fn one_each(alloc: Global, left: Expr, right: Expr) -> Result<(List<Expr>, List<Expr>), NoMemory>
+    ensures { IfOk result (λ lists. lists ≡ (left ∷ [], right ∷ [])) }
+{
+    match one(alloc, left) {
+        Ok(left) => Ok((left, one(alloc, right)?)),
+        Err(refused) => {
+            discard(right);
+            Err(refused)
+        }
+    }
 }
 
 /// A call, where it is no deeper than `limit`.
@@ -147,14 +179,27 @@ pub(crate) fn aggregated<'a>(
 {
     let (param, of, depth) = operands;
     if depth >= limit {
+        discard(of);
         return Err(ParseFault::NotExpr);
     }
+    let expr = aggregate(alloc, op, grouping, param, of)?;
+    Ok((expr, depth + 1, rest))
+}
+
+fn aggregate(
+    alloc: Global,
+    op: AggregateOp,
+    grouping: Option<Grouping>,
+    param: List<Expr>,
+    of: Expr,
+) -> Result<Expr, NoMemory>
+    ensures { IfOk result (λ e. e ≡ expr.Aggregate op grouping param (of ∷ [])) }
+{
     let of = one(alloc, of)?;
-    let expr = Expr::Aggregate {
+    Ok(Expr::Aggregate {
         op,
         grouping,
         param,
         of,
-    };
-    Ok((expr, depth + 1, rest))
+    })
 }

@@ -1,28 +1,38 @@
-use Rattle.std.proofs.Common.{◌≡◌, ◌≤◌, [], ◌+◌, ◌∙◌, ◌++◌, length, subst, arith}
-use Rattle.op_edges.specs.Lines.{given, most_bytes, shown_lines}
-use Rattle.op_edges.specs.Streams.{AppendsPrefix}
-use Rattle.op_edges.proofs.ToldLemmas.{told_so, told_then}
+use Rattle.std.proofs.Common.{◌≡◌, ◌+◌, ◌∙◌, ◌++◌, Ok, Err, true, length, refl, ap, arith}
+use Rattle.op_edges.specs.Lines.{Reading, shown_lines}
+use Rattle.op_edges.proofs.ToldLemmas.{told_so, told_same, told_then}
 use Rattle.op_report.specs.ReadBack.{report_bytes}
-use Rattle.op_run.specs.LineRuns.{OneMore, LinesRan}
+use Rattle.op_run.specs.declared.lines.Next.TheVariants.{More, Ends, Stops}
+use Rattle.op_run.specs.declared.stop.Stop.TheVariants.{Memory}
+use Rattle.op_run.specs.InputRuns.{InputRan}
+use Rattle.op_run.specs.LineRuns.{LineRan, LinesRan}
 use Rattle.op_run.specs.Lines.{all_said}
-use Rattle.op_run.proofs.LinesRanLemmas.{lines_next, lines_stopped, lines_part, nothing_behind}
+use Rattle.op_run.specs.WellAnswered.{all_well}
+use Rattle.op_run.proofs.InputRunLemmas.{none_ran, memory_causes, late_causes, end_causes, stop_causes}
+use Rattle.op_run.proofs.LinesRanLemmas.{lines_start, lines_on, lines_end, lines_stop, lines_out}
 use Rattle.op_run.proofs.lines.run_lines.Goals as goal
 
-pub returns-in-Stops-clause-prefix : goal.returns-in-Stops-clause-prefix
-returns-in-Stops-clause-prefix g c = told_then (g.S.Source.left c.args.source.now) (g.S.Source.left c.loop.source) (g.S.Source.left c.run_line.new.source)
-    (λ all coming. LinesRan c.args.server.now.config c.args.server.now.served all (g.O.Sink.taken c.args.sink.now) (g.O.Sink.taken c.loop.sink)
-    c.loop.server.served c.loop.reader.line (c.loop.reader.held ++ coming) c.loop.good)
-    (λ coming left. AppendsPrefix (g.O.Sink.taken c.loop.sink) (g.O.Sink.taken c.run_line.new.sink)
-    (report_bytes (all_said c.loop.server.config c.loop.server.served c.loop.reader.line (shown_lines (c.loop.reader.held ++ coming)))))
-    (λ all left. AppendsPrefix (g.O.Sink.taken c.args.sink.now) (g.O.Sink.taken c.run_line.new.sink)
-    (report_bytes (all_said c.args.server.now.config c.args.server.now.served 0 (shown_lines all))))
-    (λ all coming left ran part. lines_stopped c.args.server.now.config c.args.server.now.served all
-    (g.O.Sink.taken c.args.sink.now) (g.O.Sink.taken c.loop.sink) (g.O.Sink.taken c.run_line.new.sink)
-    c.loop.server.served c.loop.reader.line (c.loop.reader.held ++ coming) c.loop.good ran
-    (subst (λ config. AppendsPrefix (g.O.Sink.taken c.loop.sink) (g.O.Sink.taken c.run_line.new.sink)
-    (report_bytes (all_said config c.loop.server.served c.loop.reader.line (shown_lines (c.loop.reader.held ++ coming)))))
-    c.loop.invariant.config part))
-    c.loop.invariant.ran c.in-Stops.ensures.stops
+pub returns-in-Err-clause-ran : goal.returns-in-Err-clause-ran
+returns-in-Err-clause-ran g c = told_same (g.S.Source.left c.args.source.now)
+    (λ bytes after. InputRan (Err Memory) (report_bytes (all_said c.args.server.now.config c.args.server.now.served 0 (shown_lines bytes)))
+    (all_well (all_said c.args.server.now.config c.args.server.now.served 0 (shown_lines bytes))) (g.O.Sink.taken c.args.sink.now) (g.O.Sink.taken c.args.sink.now) bytes after)
+    (λ bytes. none_ran (report_bytes (all_said c.args.server.now.config c.args.server.now.served 0 (shown_lines bytes)))
+    (all_well (all_said c.args.server.now.config c.args.server.now.served 0 (shown_lines bytes))) (g.O.Sink.taken c.args.sink.now) bytes)
+
+pub returns-in-Err-clause-causes : goal.returns-in-Err-clause-causes
+returns-in-Err-clause-causes g c = memory_causes (g.S.Source.faults c.args.source.now) (g.O.Sink.faults c.args.sink.now)
+
+pub loop-init : goal.loop-init
+loop-init g c = record {
+  going = ap (λ (r : Reading). r.going) c.in-Ok.ensures;
+  config = refl;
+  ran = told_same (g.S.Source.left c.args.source.now)
+      (λ before after. LinesRan c.args.server.now.config c.args.server.now.served before (g.O.Sink.taken c.args.sink.now) (g.O.Sink.taken c.args.sink.now)
+      c.args.server.now.served c.in-Ok.reader.line (c.in-Ok.reader.held ++ after) true × (c.in-Ok.reader.came + length after ≡ length before))
+      (λ all. lines_start c.args.server.now c.in-Ok.reader (g.O.Sink.taken c.args.sink.now) all c.in-Ok.ensures);
+  later_input = omega arith;
+  later_output = omega arith;
+}
 
 pub loop-preserved : goal.loop-preserved
 loop-preserved g c = record {
@@ -30,44 +40,69 @@ loop-preserved g c = record {
   config = c.in-More.ensures.going.1 ∙ c.loop.invariant.config;
   ran = told_then (g.S.Source.left c.args.source.now) (g.S.Source.left c.loop.source) (g.S.Source.left c.run_line.new.source)
       (λ all coming. LinesRan c.args.server.now.config c.args.server.now.served all (g.O.Sink.taken c.args.sink.now) (g.O.Sink.taken c.loop.sink)
-      c.loop.server.served c.loop.reader.line (c.loop.reader.held ++ coming) c.loop.good)
-      (λ coming left. OneMore c.loop.server.config c.loop.server.served c.loop.reader.line (c.loop.reader.held ++ coming) (c.run_line.new.reader.held ++ left)
-      (g.O.Sink.taken c.loop.sink) (g.O.Sink.taken c.run_line.new.sink) c.run_line.new.server.served c.run_line.new.reader.line c.in-More.well)
+      c.loop.server.served c.loop.reader.line (c.loop.reader.held ++ coming) c.loop.good × (c.loop.reader.came + length coming ≡ length all))
+      (λ coming left. LineRan (More c.in-More.well) c.loop.server c.run_line.new.server c.loop.reader c.run_line.new.reader
+      (g.O.Sink.taken c.loop.sink) (g.O.Sink.taken c.run_line.new.sink) coming left)
       (λ all left. LinesRan c.args.server.now.config c.args.server.now.served all (g.O.Sink.taken c.args.sink.now) (g.O.Sink.taken c.run_line.new.sink)
-      c.run_line.new.server.served c.run_line.new.reader.line (c.run_line.new.reader.held ++ left) c.both-good.result)
-      (λ all coming left ran one. lines_next c.args.server.now.config c.args.server.now.served all
-      (g.O.Sink.taken c.args.sink.now) (g.O.Sink.taken c.loop.sink) (g.O.Sink.taken c.run_line.new.sink)
-      c.loop.server.served c.run_line.new.server.served c.loop.reader.line c.run_line.new.reader.line
-      (c.loop.reader.held ++ coming) (c.run_line.new.reader.held ++ left) c.loop.good c.in-More.well c.both-good.result ran
-      (subst (λ config. OneMore config c.loop.server.served c.loop.reader.line (c.loop.reader.held ++ coming) (c.run_line.new.reader.held ++ left)
-      (g.O.Sink.taken c.loop.sink) (g.O.Sink.taken c.run_line.new.sink) c.run_line.new.server.served c.run_line.new.reader.line c.in-More.well)
-      c.loop.invariant.config one)
-      c.both-good.ensures)
-      c.loop.invariant.ran c.in-More.ensures.more;
-  sum = told_then (g.S.Source.left c.args.source.now) (g.S.Source.left c.loop.source) (g.S.Source.left c.run_line.new.source)
-      (λ all coming. c.loop.reader.came + length coming ≡ length all)
-      (λ coming left. c.run_line.new.reader.came + length left ≡ c.loop.reader.came + length coming)
-      (λ all left. c.run_line.new.reader.came + length left ≡ length all)
-      (λ all coming left sum one. one ∙ sum) c.loop.invariant.sum c.in-More.ensures.sum;
-  later_input = omega (arith, c.loop.invariant.later_input, c.run_line.ensures.later_input);
-  later_output = omega (arith, c.loop.invariant.later_output, c.run_line.ensures.later_output);
+      c.run_line.new.server.served c.run_line.new.reader.line (c.run_line.new.reader.held ++ left) c.both-good.result
+      × (c.run_line.new.reader.came + length left ≡ length all))
+      (λ all coming left ran one. lines_on c.args.server.now c.loop.server c.loop.reader (g.O.Sink.taken c.args.sink.now) (g.O.Sink.taken c.loop.sink)
+      all coming c.loop.good c.loop.invariant.config ran c.run_line.new.server c.run_line.new.reader (g.O.Sink.taken c.run_line.new.sink) left
+      c.in-More.well c.both-good.result c.both-good.ensures one)
+      c.loop.invariant.ran c.in-More.ensures.ran;
+  later_input = omega (arith, c.loop.invariant.later_input, c.in-More.ensures.causes.later_input);
+  later_output = omega (arith, c.loop.invariant.later_output, c.in-More.ensures.causes.later_output);
 }
 
-pub returns-clause-prefix : goal.returns-clause-prefix
-returns-clause-prefix g c = told_so (g.S.Source.left c.args.source.now) (g.S.Source.left c.loop.source)
+pub returns-in-Ends-clause-ran : goal.returns-in-Ends-clause-ran
+returns-in-Ends-clause-ran g c = told_then (g.S.Source.left c.args.source.now) (g.S.Source.left c.loop.source) (g.S.Source.left c.run_line.new.source)
     (λ all coming. LinesRan c.args.server.now.config c.args.server.now.served all (g.O.Sink.taken c.args.sink.now) (g.O.Sink.taken c.loop.sink)
-    c.loop.server.served c.loop.reader.line (c.loop.reader.held ++ coming) c.loop.good)
-    (λ all left. AppendsPrefix (g.O.Sink.taken c.args.sink.now) (g.O.Sink.taken c.loop.sink)
-    (report_bytes (all_said c.args.server.now.config c.args.server.now.served 0 (shown_lines all))))
-    (λ all coming ran. lines_part c.args.server.now.config c.args.server.now.served all (g.O.Sink.taken c.args.sink.now) (g.O.Sink.taken c.loop.sink)
-    c.loop.server.served c.loop.reader.line (c.loop.reader.held ++ coming) c.loop.good ran)
+    c.loop.server.served c.loop.reader.line (c.loop.reader.held ++ coming) c.loop.good × (c.loop.reader.came + length coming ≡ length all))
+    (λ coming left. LineRan Ends c.loop.server c.run_line.new.server c.loop.reader c.run_line.new.reader
+    (g.O.Sink.taken c.loop.sink) (g.O.Sink.taken c.run_line.new.sink) coming left)
+    (λ all left. InputRan (Ok c.loop.good) (report_bytes (all_said c.args.server.now.config c.args.server.now.served 0 (shown_lines all)))
+    (all_well (all_said c.args.server.now.config c.args.server.now.served 0 (shown_lines all)))
+    (g.O.Sink.taken c.args.sink.now) (g.O.Sink.taken c.run_line.new.sink) all left)
+    (λ all coming left ran ends. lines_end c.args.server.now c.loop.server c.loop.reader (g.O.Sink.taken c.args.sink.now) (g.O.Sink.taken c.loop.sink)
+    all coming c.loop.good c.loop.invariant.config ran c.run_line.new.server c.run_line.new.reader (g.O.Sink.taken c.run_line.new.sink) left ends)
+    c.loop.invariant.ran c.in-Ends.ensures.ran
+
+pub returns-in-Ends-clause-causes : goal.returns-in-Ends-clause-causes
+returns-in-Ends-clause-causes g c = end_causes c.loop.good
+    (g.S.Source.faults c.args.source.now) (g.S.Source.faults c.loop.source) (g.S.Source.faults c.run_line.new.source)
+    (g.O.Sink.faults c.args.sink.now) (g.O.Sink.faults c.loop.sink) (g.O.Sink.faults c.run_line.new.sink)
+    c.loop.invariant.later_input c.loop.invariant.later_output c.in-Ends.ensures.causes
+
+pub returns-in-Stops-clause-ran : goal.returns-in-Stops-clause-ran
+returns-in-Stops-clause-ran g c = told_then (g.S.Source.left c.args.source.now) (g.S.Source.left c.loop.source) (g.S.Source.left c.run_line.new.source)
+    (λ all coming. LinesRan c.args.server.now.config c.args.server.now.served all (g.O.Sink.taken c.args.sink.now) (g.O.Sink.taken c.loop.sink)
+    c.loop.server.served c.loop.reader.line (c.loop.reader.held ++ coming) c.loop.good × (c.loop.reader.came + length coming ≡ length all))
+    (λ coming left. LineRan (Stops c.in-Stops.stop) c.loop.server c.run_line.new.server c.loop.reader c.run_line.new.reader
+    (g.O.Sink.taken c.loop.sink) (g.O.Sink.taken c.run_line.new.sink) coming left)
+    (λ all left. InputRan (Err c.in-Stops.stop) (report_bytes (all_said c.args.server.now.config c.args.server.now.served 0 (shown_lines all)))
+    (all_well (all_said c.args.server.now.config c.args.server.now.served 0 (shown_lines all)))
+    (g.O.Sink.taken c.args.sink.now) (g.O.Sink.taken c.run_line.new.sink) all left)
+    (λ all coming left ran stops. lines_stop c.args.server.now c.loop.server c.loop.reader (g.O.Sink.taken c.args.sink.now) (g.O.Sink.taken c.loop.sink)
+    all coming c.loop.good c.loop.invariant.config ran c.in-Stops.stop c.run_line.new.server c.run_line.new.reader (g.O.Sink.taken c.run_line.new.sink) left stops)
+    c.loop.invariant.ran c.in-Stops.ensures.ran
+
+pub returns-in-Stops-clause-causes : goal.returns-in-Stops-clause-causes
+returns-in-Stops-clause-causes g c = stop_causes c.in-Stops.stop
+    (g.S.Source.faults c.args.source.now) (g.S.Source.faults c.loop.source) (g.S.Source.faults c.run_line.new.source)
+    (g.O.Sink.faults c.args.sink.now) (g.O.Sink.faults c.loop.sink) (g.O.Sink.faults c.run_line.new.sink)
+    c.loop.invariant.later_input c.loop.invariant.later_output c.in-Stops.ensures.causes
+
+pub returns-clause-ran : goal.returns-clause-ran
+returns-clause-ran g c = told_so (g.S.Source.left c.args.source.now) (g.S.Source.left c.loop.source)
+    (λ all coming. LinesRan c.args.server.now.config c.args.server.now.served all (g.O.Sink.taken c.args.sink.now) (g.O.Sink.taken c.loop.sink)
+    c.loop.server.served c.loop.reader.line (c.loop.reader.held ++ coming) c.loop.good × (c.loop.reader.came + length coming ≡ length all))
+    (λ all coming. InputRan (Err Memory) (report_bytes (all_said c.args.server.now.config c.args.server.now.served 0 (shown_lines all)))
+    (all_well (all_said c.args.server.now.config c.args.server.now.served 0 (shown_lines all)))
+    (g.O.Sink.taken c.args.sink.now) (g.O.Sink.taken c.loop.sink) all coming)
+    (λ all coming ran. lines_out c.args.server.now c.loop.server c.loop.reader (g.O.Sink.taken c.args.sink.now) (g.O.Sink.taken c.loop.sink)
+    all coming c.loop.good c.loop.invariant.config ran)
     c.loop.invariant.ran
 
-pub returns-in-Ends-clause-whole : goal.returns-in-Ends-clause-whole
-returns-in-Ends-clause-whole g c = told_then (g.S.Source.left c.args.source.now) (g.S.Source.left c.loop.source) (g.S.Source.left c.run_line.new.source)
-    (λ all coming. c.loop.reader.came + length coming ≡ length all)
-    (λ coming left. (c.loop.reader.held ++ coming ≡ []) × (c.run_line.new.reader.held ++ left ≡ [])
-    × (g.O.Sink.taken c.run_line.new.sink ≡ g.O.Sink.taken c.loop.sink) × (given c.run_line.new.reader ≤ most_bytes))
-    (λ all left. left ≡ [])
-    (λ all coming left sum ends. nothing_behind c.run_line.new.reader.held left ends.1)
-    c.loop.invariant.sum c.in-Ends.ensures.ends
+pub returns-clause-causes : goal.returns-clause-causes
+returns-clause-causes g c = late_causes (g.S.Source.faults c.args.source.now) (g.S.Source.faults c.loop.source)
+    (g.O.Sink.faults c.args.sink.now) (g.O.Sink.faults c.loop.sink) c.loop.invariant.later_input c.loop.invariant.later_output

@@ -9,8 +9,8 @@ invariant-loop g l = record {
   config : l.server.config ≡ l.initial.server.config;
   ran : Told (g.S.Source.left l.initial.source) (g.S.Source.left l.source) (λ before after.
       LinesRan l.initial.server.config l.initial.server.served before (g.O.Sink.taken l.initial.sink) (g.O.Sink.taken l.sink)
-      l.server.served l.reader.line (l.reader.held ++ after) l.good);
-  sum : Told (g.S.Source.left l.initial.source) (g.S.Source.left l.source) (λ before after. l.reader.came + length after ≡ length before);
+      l.server.served l.reader.line (l.reader.held ++ after) l.good
+      × (l.reader.came + length after ≡ length before));
   later_input : g.S.Source.faults l.initial.source ≤ g.S.Source.faults l.source;
   later_output : g.O.Sink.faults l.initial.sink ≤ g.O.Sink.faults l.sink;
 }

@@ -1,70 +1,57 @@
-use Rattle.std.proofs.Common.{◌≡◌, ◌∙◌, ◌++◌, ◌∷◌, [], ap, subst}
+use Rattle.std.proofs.Common.{◌≡◌, ◌≤◌, ◌<◌, ◌+◌, [], length, OnOk, OnErr, IfOk, IfErr}
 use Rattle.std.specs.Io.KnownBytes.{Appends}
-use Rattle.op_edges.specs.Lines.{shown_lines}
+use Rattle.op_edges.specs.Lines.{most_bytes}
 use Rattle.op_edges.specs.Streams.{AppendsPrefix}
-use Rattle.op_edges.proofs.ToldLemmas.{told_so, told_same}
-use Rattle.op_report.specs.Lines.{NEWLINE}
-use Rattle.op_report.specs.ReadBack.{report_bytes}
-use Rattle.cfg_types.specs.Written.{config_text}
-use Rattle.op_thin.specs.Compiled.{config_of}
-use Rattle.tenant_world.specs.Runs.{World, run, left_by}
-use Rattle.op_run.specs.Inputs.{file_events}
-use Rattle.op_run.specs.Lines.{all_said}
+use Rattle.op_run.specs.declared.stop.Stop.TheVariants.{Limit}
 use Rattle.op_run.specs.Outputs.{run_reports, run_text}
 use Rattle.op_run.specs.WellAnswered.{all_well}
-use Rattle.op_run.proofs.WholeRunLemmas.{begins, wrote_run, wrote_part, wrote_some, well_run}
+use Rattle.op_run.proofs.InputRunLemmas.{told_of, text_of, good_of, part_of, read_of, whole_of, limit_of}
 use Rattle.op_run.proofs.running.run_files.Goals as goal
 
-pub returns-in-Ok-run_configured-clause-text : goal.returns-in-Ok-run_configured-clause-text
-returns-in-Ok-run_configured-clause-text g c =
-    let start = begins c.new-objects.result c.in-Ok.server c.new-objects.ensures c.in-Ok.ensures in
-    told_so (g.S.Source.left c.args.input.now) (g.S.Source.left c.run_configured.new.input)
-    (λ bytes after. Appends (g.O.Sink.taken c.report_files.new.sink) (g.O.Sink.taken c.run_configured.new.out)
-    (report_bytes (all_said (config_of c.report_files.new.objects) c.report_files.new.server.served 0 (shown_lines bytes))
-    ++ (config_text (config_of c.report_files.new.objects) ++ NEWLINE ∷ [])))
-    (λ bytes after. Appends (g.O.Sink.taken c.args.out.now) (g.O.Sink.taken c.run_configured.new.out) (run_text c.args.files.now bytes))
-    (λ bytes after second. wrote_run c.args.files.now bytes c.report_files.new.objects c.report_files.new.server.served
-    (c.in-Ok-report_files.ensures.world ∙ ap (λ (w : World). left_by w (file_events c.args.files.now)) start)
-    (g.O.Sink.taken c.args.out.now) (g.O.Sink.taken c.report_files.new.sink) (g.O.Sink.taken c.run_configured.new.out)
-    (subst (λ (w : World). Appends (g.O.Sink.taken c.args.out.now) (g.O.Sink.taken c.report_files.new.sink) (report_bytes (run w (file_events c.args.files.now))))
-    start c.in-Ok-report_files.ensures.lines)
-    second)
-    c.in-Ok-run_configured.ensures.text
+pub returns-clause-text : goal.returns-clause-text
+returns-clause-text g c = told_of (g.S.Source.left c.args.input.now) (g.S.Source.left c.files_and_input.new.input) c.files_and_input.result
+    (run_text c.args.files.now) (λ bytes. all_well (run_reports c.args.files.now bytes)) (g.O.Sink.taken c.args.out.now) (g.O.Sink.taken c.files_and_input.new.out)
+    (λ bytes after. OnOk c.files_and_input.result (Appends (g.O.Sink.taken c.args.out.now) (g.O.Sink.taken c.files_and_input.new.out) (run_text c.args.files.now bytes)))
+    (λ x y. text_of (run_text c.args.files.now x) (all_well (run_reports c.args.files.now x)) (g.O.Sink.taken c.args.out.now) (g.O.Sink.taken c.files_and_input.new.out) x y c.files_and_input.result)
+    c.files_and_input.ensures.ran
 
-pub returns-in-Ok-run_configured-clause-good : goal.returns-in-Ok-run_configured-clause-good
-returns-in-Ok-run_configured-clause-good g c =
-    let start = begins c.new-objects.result c.in-Ok.server c.new-objects.ensures c.in-Ok.ensures in
-    told_so (g.S.Source.left c.args.input.now) (g.S.Source.left c.run_configured.new.input)
-    (λ bytes after. c.in-Ok-run_configured.well
-    ≡ all_well (all_said (config_of c.report_files.new.objects) c.report_files.new.server.served 0 (shown_lines bytes)))
-    (λ bytes after. c.both.result ≡ all_well (run_reports c.args.files.now bytes))
-    (λ bytes after well. well_run c.args.files.now bytes c.report_files.new.objects c.report_files.new.server.served
-    (c.in-Ok-report_files.ensures.world ∙ ap (λ (w : World). left_by w (file_events c.args.files.now)) start)
-    c.in-Ok-report_files.good c.in-Ok-run_configured.well c.both.result
-    (c.in-Ok-report_files.ensures.good ∙ ap (λ (w : World). all_well (run w (file_events c.args.files.now))) start) well c.both.ensures)
-    c.in-Ok-run_configured.ensures.good
+pub returns-clause-good : goal.returns-clause-good
+returns-clause-good g c = told_of (g.S.Source.left c.args.input.now) (g.S.Source.left c.files_and_input.new.input) c.files_and_input.result
+    (run_text c.args.files.now) (λ bytes. all_well (run_reports c.args.files.now bytes)) (g.O.Sink.taken c.args.out.now) (g.O.Sink.taken c.files_and_input.new.out)
+    (λ bytes after. IfOk c.files_and_input.result (λ good. good ≡ all_well (run_reports c.args.files.now bytes)))
+    (λ x y. good_of (run_text c.args.files.now x) (all_well (run_reports c.args.files.now x)) (g.O.Sink.taken c.args.out.now) (g.O.Sink.taken c.files_and_input.new.out) x y c.files_and_input.result)
+    c.files_and_input.ensures.ran
 
-pub returns-in-Err-run_configured-clause-stopped : goal.returns-in-Err-run_configured-clause-stopped
-returns-in-Err-run_configured-clause-stopped g c =
-    let start = begins c.new-objects.result c.in-Ok.server c.new-objects.ensures c.in-Ok.ensures in
-    told_so (g.S.Source.left c.args.input.now) (g.S.Source.left c.run_configured.new.input)
-    (λ bytes after. AppendsPrefix (g.O.Sink.taken c.report_files.new.sink) (g.O.Sink.taken c.run_configured.new.out)
-    (report_bytes (all_said (config_of c.report_files.new.objects) c.report_files.new.server.served 0 (shown_lines bytes))
-    ++ (config_text (config_of c.report_files.new.objects) ++ NEWLINE ∷ [])))
-    (λ bytes after. AppendsPrefix (g.O.Sink.taken c.args.out.now) (g.O.Sink.taken c.run_configured.new.out) (run_text c.args.files.now bytes))
-    (λ bytes after part. wrote_part c.args.files.now bytes c.report_files.new.objects c.report_files.new.server.served
-    (c.in-Ok-report_files.ensures.world ∙ ap (λ (w : World). left_by w (file_events c.args.files.now)) start)
-    (g.O.Sink.taken c.args.out.now) (g.O.Sink.taken c.report_files.new.sink) (g.O.Sink.taken c.run_configured.new.out)
-    (subst (λ (w : World). Appends (g.O.Sink.taken c.args.out.now) (g.O.Sink.taken c.report_files.new.sink) (report_bytes (run w (file_events c.args.files.now))))
-    start c.in-Ok-report_files.ensures.lines)
-    part)
-    c.in-Err-run_configured.ensures.stopped
+pub returns-clause-stopped : goal.returns-clause-stopped
+returns-clause-stopped g c = told_of (g.S.Source.left c.args.input.now) (g.S.Source.left c.files_and_input.new.input) c.files_and_input.result
+    (run_text c.args.files.now) (λ bytes. all_well (run_reports c.args.files.now bytes)) (g.O.Sink.taken c.args.out.now) (g.O.Sink.taken c.files_and_input.new.out)
+    (λ bytes after. OnErr c.files_and_input.result (AppendsPrefix (g.O.Sink.taken c.args.out.now) (g.O.Sink.taken c.files_and_input.new.out) (run_text c.args.files.now bytes)))
+    (λ x y. part_of (run_text c.args.files.now x) (all_well (run_reports c.args.files.now x)) (g.O.Sink.taken c.args.out.now) (g.O.Sink.taken c.files_and_input.new.out) x y c.files_and_input.result)
+    c.files_and_input.ensures.ran
 
-pub returns-in-Err-report_files-clause-stopped : goal.returns-in-Err-report_files-clause-stopped
-returns-in-Err-report_files-clause-stopped g c =
-    let start = begins c.new-objects.result c.in-Ok.server c.new-objects.ensures c.in-Ok.ensures in
-    told_same (g.S.Source.left c.args.input.now)
-    (λ bytes after. AppendsPrefix (g.O.Sink.taken c.args.out.now) (g.O.Sink.taken c.report_files.new.sink) (run_text c.args.files.now bytes))
-    (λ bytes. wrote_some c.args.files.now bytes (g.O.Sink.taken c.args.out.now) (g.O.Sink.taken c.report_files.new.sink)
-    (subst (λ (w : World). AppendsPrefix (g.O.Sink.taken c.args.out.now) (g.O.Sink.taken c.report_files.new.sink) (report_bytes (run w (file_events c.args.files.now))))
-    start c.in-Err-report_files.ensures.prefix))
+pub returns-clause-read : goal.returns-clause-read
+returns-clause-read g c = told_of (g.S.Source.left c.args.input.now) (g.S.Source.left c.files_and_input.new.input) c.files_and_input.result
+    (run_text c.args.files.now) (λ bytes. all_well (run_reports c.args.files.now bytes)) (g.O.Sink.taken c.args.out.now) (g.O.Sink.taken c.files_and_input.new.out)
+    (λ bytes after. OnOk c.files_and_input.result (length bytes ≤ most_bytes))
+    (λ x y. read_of (run_text c.args.files.now x) (all_well (run_reports c.args.files.now x)) (g.O.Sink.taken c.args.out.now) (g.O.Sink.taken c.files_and_input.new.out) x y c.files_and_input.result)
+    c.files_and_input.ensures.ran
+
+pub returns-clause-whole : goal.returns-clause-whole
+returns-clause-whole g c = told_of (g.S.Source.left c.args.input.now) (g.S.Source.left c.files_and_input.new.input) c.files_and_input.result
+    (run_text c.args.files.now) (λ bytes. all_well (run_reports c.args.files.now bytes)) (g.O.Sink.taken c.args.out.now) (g.O.Sink.taken c.files_and_input.new.out)
+    (λ bytes after. OnOk c.files_and_input.result (after ≡ []))
+    (λ x y. whole_of (run_text c.args.files.now x) (all_well (run_reports c.args.files.now x)) (g.O.Sink.taken c.args.out.now) (g.O.Sink.taken c.files_and_input.new.out) x y c.files_and_input.result)
+    c.files_and_input.ensures.ran
+
+pub returns-clause-limit : goal.returns-clause-limit
+returns-clause-limit g c = told_of (g.S.Source.left c.args.input.now) (g.S.Source.left c.files_and_input.new.input) c.files_and_input.result
+    (run_text c.args.files.now) (λ bytes. all_well (run_reports c.args.files.now bytes)) (g.O.Sink.taken c.args.out.now) (g.O.Sink.taken c.files_and_input.new.out)
+    (λ bytes after. IfErr c.files_and_input.result (λ stop. stop ≡ Limit → most_bytes + length after < length bytes))
+    (λ x y. limit_of (run_text c.args.files.now x) (all_well (run_reports c.args.files.now x)) (g.O.Sink.taken c.args.out.now) (g.O.Sink.taken c.files_and_input.new.out) x y c.files_and_input.result)
+    c.files_and_input.ensures.ran
+
+pub returns-clause-input : goal.returns-clause-input
+returns-clause-input g c = c.files_and_input.ensures.causes.input
+
+pub returns-clause-output : goal.returns-clause-output
+returns-clause-output g c = c.files_and_input.ensures.causes.output

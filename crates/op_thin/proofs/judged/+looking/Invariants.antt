@@ -4,11 +4,5 @@ use Rattle.ql_tree.specs.Children.{depth_of, greatest}
 use Rattle.op_thin.specs.Nameless.{has_nameless}
 use Rattle.op_thin.proofs.judged.+looking.Given as goal
 
-abbrev pub decreases-has_nameless : goal.decreases-has_nameless
-decreases-has_nameless l = 2 * depth_of l.expr.now
-
-abbrev pub decreases-any_nameless : goal.decreases-any_nameless
-decreases-any_nameless l = 2 * greatest (map depth_of l.exprs.now) + 1
-
 abbrev pub invariant-any_nameless-loop-expr : goal.invariant-any_nameless-loop-expr
 invariant-any_nameless-loop-expr l = list_any has_nameless (take l.expr-index l.exprs) ≡ false

@@ -1,7 +1,8 @@
 use Rattle.std.proofs.Common.{SFits, arith, rules}
 use mir.Syntax.{w64}
 use Rattle.std.proofs.lemmas.Int.{ints}
-use Rattle.ql_call.proofs.NumberLemmas.{increase_first, increase_next}
+use Rattle.ql_call.specs.Over.{increase_in}
+use Rattle.ql_call.proofs.NumberLemmas.{increase_first, increase_next, none_of}
 use Rattle.ql_call.proofs.counters.increase_in.Goals as goal
 
 pub loop-thing-init : goal.loop-thing-init
@@ -23,3 +24,6 @@ loop-thing-preserved g c = (
   omega (arith, ints),
   omega (arith, ints),
 )
+
+pub returns-in_default : goal.returns-in_default
+returns-in_default g c = none_of increase_in c.args.things.now c.in_default.len_below

@@ -18,8 +18,8 @@ pub returns-in-Last : goal.returns-in-Last
 returns-in-Last c =
     last_one reading.labels _ c.loop-step.found (length c.args.words.now) c.loop-step.step
     c.loop-step.rest.now c.loop-step.invariant
-    _ c.push.new.self c.in-Last.behind.now c.loop-step-test.true c.in-Last.ensures
-    (cc (c.in_ok-push-in-Last.ensures.ok, c.in_ok-from_str-in-Last.ensures, c.as_str.ensures))
+    _ c.push_label.new.found c.in-Last.behind.now c.loop-step-test.true c.in-Last.ensures
+    c.in_ok-push_label-in-Last.ensures
 
 pub returns-in-Broken : goal.returns-in-Broken
 returns-in-Broken c =

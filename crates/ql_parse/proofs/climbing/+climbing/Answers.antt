@@ -1,9 +1,12 @@
 use Rattle.std.proofs.Common.{◌∙◌, length, Some, sym, ap, subst, arith}
+use Rattle.ql_parse.specs.Climbing.{operand}
 use Rattle.ql_parse.specs.Found.{◌>>=◌}
 use Rattle.ql_parse.specs.Gives.{Gives, Lacks}
+use Rattle.ql_parse.specs.ReadClauses.{boolean}
 use Rattle.ql_parse.specs.ReadSelectors.{selector}
-use Rattle.ql_parse.specs.ReadTerms.{arguments}
-use Rattle.ql_parse.specs.Reading.{within, under_sign}
+use Rattle.std.proofs.lemmas.Result.{IfOk-weaker}
+use Rattle.ql_parse.specs.ReadTerms.{arguments, closed}
+use Rattle.ql_parse.specs.Reading.{right, within, under_sign}
 use Rattle.ql_parse.proofs.ListSteps.{last_one, broken_here, one_more, no_turns}
 use Rattle.ql_parse.proofs.Steps as steps
 use Rattle.ql_parse.proofs.climbing.+climbing.Goals as goal
@@ -40,6 +43,33 @@ signed-returns-in-Err-clause-read t c =
     steps.sign_fault c.in-Err.fault c.args.room c.args.limit c.args.words.now c.in-Some.rest.now
     c.in-Some.minus c.if-limit-eq0.false
     (sym c.in-Some.ensures) c.in-Err.ensures.read
+
+pub right-returns-in-Err-clause-read : goal.right-returns-in-Err-clause-read
+right-returns-in-Err-clause-read t c =
+    subst (λ x. Lacks c.in-Err.fault
+    (right c.args.room c.args.limit (operand c.args.below c.args.room c.args.limit) c.args.left.0 c.args.op x))
+    (c.boolean-boolean.ensures ∙ ap (λ t. boolean t c.args.words.now) c.is_comparison.ensures)
+    (steps.right_unmatched c.args.below c.args.room c.args.limit c.args.left.0 c.args.op
+    (c.boolean-boolean.result.0, c.boolean-boolean.result.1.now) c.in-Err.fault c.in-Err.ensures)
+
+pub right-returns-in-Err-level-clause-read : goal.right-returns-in-Err-level-clause-read
+right-returns-in-Err-level-clause-read t c =
+    subst (λ x. Lacks c.in-Err-level.fault
+    (right c.args.room c.args.limit (operand c.args.below c.args.room c.args.limit) c.args.left.0 c.args.op x))
+    (c.boolean-boolean.ensures ∙ ap (λ t. boolean t c.args.words.now) c.is_comparison.ensures)
+    (steps.right_lost c.args.below c.args.room c.args.limit c.args.left.0 c.args.op
+    (c.boolean-boolean.result.0, c.boolean-boolean.result.1.now) c.in-Err-level.fault c.in-Ok.matching c.in-Ok.rest.now
+    c.in-Ok.ensures c.in-Err-level.ensures.read)
+
+pub right-returns-in-Ok-level-clause-read : goal.right-returns-in-Ok-level-clause-read
+right-returns-in-Ok-level-clause-read t c =
+    subst (λ read. Gives (λ x. (x.0, x.2.now)) c.binary.result read)
+    (steps.right_found c.args.below c.args.room c.args.limit c.args.left.0 c.args.op
+    (c.boolean-boolean.result.0, c.boolean-boolean.result.1.now) c.in-Ok.matching c.in-Ok.rest.now c.in-Ok-level.rest.now
+    c.in-Ok-level.of c.in-Ok.ensures c.in-Ok-level.ensures.read
+    ∙ ap (λ x. right c.args.room c.args.limit (operand c.args.below c.args.room c.args.limit) c.args.left.0 c.args.op x)
+    (c.boolean-boolean.ensures ∙ ap (λ t. boolean t c.args.words.now) c.is_comparison.ensures))
+    c.binary.ensures.read
 
 pub chain-returns-in-None-clause-read : goal.chain-returns-in-None-clause-read
 chain-returns-in-None-clause-read t c =
@@ -172,3 +202,39 @@ arguments-returns-clause-read t c =
     (length c.args.words.now) c.loop-step.step
     c.loop-step.rest.now c.loop-step.invariant.read c.loop-step-test.false
     (steps.no_argument c.args.room c.args.limit)
+
+pub bracketed-returns-in-Ok-clause-read : goal.bracketed-returns-in-Ok-clause-read
+bracketed-returns-in-Ok-clause-read t c =
+    subst (λ found. Gives (λ x. (x.0, x.2.now)) c.closed.result (found >>= λ e. closed e.0 e.1))
+    (sym c.in-Ok.ensures.read) c.closed.ensures.read
+
+pub bracketed-returns-in-Ok-clause-fits : goal.bracketed-returns-in-Ok-clause-fits
+bracketed-returns-in-Ok-clause-fits t c =
+    IfOk-weaker c.closed.result _ _ (λ x same. omega (arith, same, c.in-Ok.ensures.fits))
+    c.closed.ensures.same
+
+pub operands-returns-in-None-clause-read : goal.operands-returns-in-None-clause-read
+operands-returns-in-None-clause-read t c =
+    subst (λ read. Gives (λ x. ((x.0.0, x.0.1), x.1.now)) c.alone.result read)
+    (steps.operand_alone c.args.room c.args.limit c.args.words.now c.in-Ok.rest.now
+    c.in-Ok.first c.in-Ok.ensures.read (sym c.in-None.ensures))
+    c.alone.ensures.read
+
+pub operands-returns-in-Ok-bracketed-clause-read : goal.operands-returns-in-Ok-bracketed-clause-read
+operands-returns-in-Ok-bracketed-clause-read t c =
+    subst (λ read. Gives (λ x. ((x.0.0, x.0.1), x.1.now)) c.both.result read)
+    (steps.operand_both c.args.room c.args.limit c.args.words.now c.in-Ok.rest.now c.in-Ok.first
+    c.in-Ok.ensures.read c.in-Some.behind.now c.in-Ok-bracketed.end.now c.in-Ok-bracketed.of
+    (sym c.in-Some.ensures) c.in-Ok-bracketed.ensures.read)
+    c.both.ensures.read
+
+pub operands-returns-in-Err-bracketed-clause-read : goal.operands-returns-in-Err-bracketed-clause-read
+operands-returns-in-Err-bracketed-clause-read t c =
+    steps.operand_fault c.args.room c.args.limit c.args.words.now c.in-Ok.rest.now c.in-Ok.first
+    c.in-Ok.ensures.read c.in-Err-bracketed.fault c.in-Some.behind.now (sym c.in-Some.ensures)
+    c.in-Err-bracketed.ensures.read
+
+pub operands-returns-in-Err-clause-read : goal.operands-returns-in-Err-clause-read
+operands-returns-in-Err-clause-read t c =
+    steps.operands_fault c.in-Err.fault c.args.room c.args.limit c.args.words.now
+    c.in-Err.ensures.read

@@ -41,7 +41,7 @@ abbrev pub decreases-aggregate : goal.decreases-aggregate
 decreases-aggregate l = 1000 * l.room + 20
 
 abbrev pub decreases-operands : goal.decreases-operands
-decreases-operands l = 1000 * l.room + 10
+decreases-operands l = 1000 * l.room + 15
 
 -- the levels so far are read
 abbrev pub invariant-level-loop-k : goal.invariant-level-loop-k

@@ -1,49 +1,8 @@
-use Rattle.std.proofs.Common.{◌≡◌, ◌+◌, ◌*◌, ◌<◌, ◌++◌, map, ◌∙◌, ap, sym, arith, rules}
+use Rattle.std.proofs.Common.{◌∙◌, ap, sym, arith}
 use Rattle.std.specs.Option.{option_copied}
-use Rattle.ql_tree.specs.Children.{children_of, depth_of, greatest}
 use Rattle.ql_tree.specs.Enforced.{first_conflict, first_of}
-use Rattle.ql_tree.proofs.NodeLemmas.{out-Binary, out-Aggregate}
-use Rattle.ql_tree.proofs.VerdictLemmas.{children, left_below, right_below, item_below}
 use Rattle.ql_rewrite.proofs.ConflictLemmas.{at_sign, at_call, at_operator, at_aggregate, conflicts_below, on_left, on_right, first_child}
 use Rattle.ql_rewrite.proofs.conflicts.+finding.Goals as goal
-
-pub first_conflict-first_below-requires-in-Binary : goal.first_conflict-first_below-requires-in-Binary
-first_conflict-first_below-requires-in-Binary t c =
-    let is : children c.args.expr.now ≡ c.in-Binary.left ++ c.in-Binary.right =
-    ap children c.in-Binary.is ∙ ap children_of (out-Binary c.in-Binary.op c.in-Binary.boolean c.in-Binary.matching c.in-Binary.left c.in-Binary.right) in
-    let below : 2 * greatest (map depth_of c.as_slice-in-Binary.result.now) + 1 < 2 * depth_of c.args.expr.now =
-    rw c.as_slice-in-Binary.ensures (left_below c.args.expr.now c.in-Binary.left c.in-Binary.right is) in
-    search rules
-
-pub first_conflict-first_below-requires-in-None : goal.first_conflict-first_below-requires-in-None
-first_conflict-first_below-requires-in-None t c =
-    let is : children c.args.expr.now ≡ c.in-Binary.left ++ c.in-Binary.right =
-    ap children c.in-Binary.is ∙ ap children_of (out-Binary c.in-Binary.op c.in-Binary.boolean c.in-Binary.matching c.in-Binary.left c.in-Binary.right) in
-    let below : 2 * greatest (map depth_of c.as_slice-in-None.result.now) + 1 < 2 * depth_of c.args.expr.now =
-    rw c.as_slice-in-None.ensures (right_below c.args.expr.now c.in-Binary.left c.in-Binary.right is) in
-    search rules
-
-pub first_conflict-first_below-requires-in-Aggregate : goal.first_conflict-first_below-requires-in-Aggregate
-first_conflict-first_below-requires-in-Aggregate t c =
-    let is : children c.args.expr.now ≡ c.in-Aggregate.param ++ c.in-Aggregate.of =
-    ap children c.in-Aggregate.is ∙ ap children_of (out-Aggregate c.in-Aggregate.op c.in-Aggregate.grouping c.in-Aggregate.param c.in-Aggregate.of) in
-    let below : 2 * greatest (map depth_of c.as_slice-in-Aggregate.result.now) + 1 < 2 * depth_of c.args.expr.now =
-    rw c.as_slice-in-Aggregate.ensures (left_below c.args.expr.now c.in-Aggregate.param c.in-Aggregate.of is) in
-    search rules
-
-pub first_conflict-first_below-requires-in-None-first_below : goal.first_conflict-first_below-requires-in-None-first_below
-first_conflict-first_below-requires-in-None-first_below t c =
-    let is : children c.args.expr.now ≡ c.in-Aggregate.param ++ c.in-Aggregate.of =
-    ap children c.in-Aggregate.is ∙ ap children_of (out-Aggregate c.in-Aggregate.op c.in-Aggregate.grouping c.in-Aggregate.param c.in-Aggregate.of) in
-    let below : 2 * greatest (map depth_of c.as_slice-in-None-first_below.result.now) + 1 < 2 * depth_of c.args.expr.now =
-    rw c.as_slice-in-None-first_below.ensures (right_below c.args.expr.now c.in-Aggregate.param c.in-Aggregate.of is) in
-    search rules
-
-pub first_below-first_conflict-requires : goal.first_below-first_conflict-requires
-first_below-first_conflict-requires t c =
-    let below : 2 * depth_of c.expr-item.result < 2 * greatest (map depth_of c.args.exprs.now) + 1 =
-    item_below c.args.exprs.now c.loop-expr.expr-index c.expr-item.result (omega arith) c.expr-item.is in
-    search rules
 
 pub first_below-returns-in-Some : goal.first_below-returns-in-Some
 first_below-returns-in-Some t c =

@@ -1,0 +1,16 @@
+use Rattle.std.proofs.Common.{refl, sym, ap, ◌++◌, map}
+use Rattle.ql_call.specs.LabelCalls as spec
+use Rattle.ql_call.specs.Operands.{text_of}
+use Rattle.ql_call.proofs.LoopLemmas.{grown, grown_whole}
+use Rattle.ql_call.proofs.label_calls.all_joined.Goals as goal
+
+pub loop-element-init : goal.loop-element-init
+loop-element-init c = ap (λ made. made ++ map (spec.joined_to c.args.target.now c.args.separator.now (map text_of c.args.sources.now)) c.args.elements.now) (sym c.new-changed.ensures)
+
+pub loop-element-preserved : goal.loop-element-preserved
+loop-element-preserved c =
+    grown (map (spec.joined_to c.args.target.now c.args.separator.now (map text_of c.args.sources.now))) c.args.elements.now c.loop-element.element-index c.element-item.result _ _ _ _ c.loop-element-test.true c.element-item.is
+    refl c.loop-element.invariant c.in_ok-push_joined.ensures
+
+pub returns : goal.returns
+returns c = grown_whole (map (spec.joined_to c.args.target.now c.args.separator.now (map text_of c.args.sources.now))) c.args.elements.now c.loop-element.element-index _ _ c.loop-element-test.false refl c.loop-element.invariant

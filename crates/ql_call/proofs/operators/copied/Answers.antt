@@ -1,0 +1,14 @@
+use Rattle.std.proofs.Common.{refl, sym, ap, ◌∙◌, ◌++◌, ◌∷◌, []}
+use Rattle.ql_call.proofs.LoopLemmas.{grown, grown_whole}
+use Rattle.ql_call.proofs.operators.copied.Goals as goal
+
+pub loop-element-init : goal.loop-element-init
+loop-element-init c = ap (λ made. made ++ c.args.elements.now) (sym c.new-copies.ensures)
+
+pub loop-element-preserved : goal.loop-element-preserved
+loop-element-preserved c =
+    grown (λ rest. rest) c.args.elements.now c.loop-element.element-index c.element-item.result _ _ _ _ c.loop-element-test.true c.element-item.is
+    refl c.loop-element.invariant (c.in_ok-push.ensures.ok ∙ ap (λ one. c.loop-element.copies ++ one ∷ []) c.in_ok-copy_of.ensures)
+
+pub returns : goal.returns
+returns c = grown_whole (λ rest. rest) c.args.elements.now c.loop-element.element-index _ _ c.loop-element-test.false refl c.loop-element.invariant

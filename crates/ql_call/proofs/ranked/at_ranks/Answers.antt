@@ -1,0 +1,15 @@
+use Rattle.std.proofs.Common.{refl, sym, ap, ◌++◌, map}
+use Rattle.ql_call.specs.Ranked as spec
+use Rattle.ql_call.proofs.LoopLemmas.{grown, grown_whole}
+use Rattle.ql_call.proofs.ranked.at_ranks.Goals as goal
+
+pub loop-element-init : goal.loop-element-init
+loop-element-init c = ap (λ made. made ++ map (spec.rank_of c.args.top) c.args.elements.now) (sym c.new-placed.ensures)
+
+pub loop-element-preserved : goal.loop-element-preserved
+loop-element-preserved c =
+    grown (map (spec.rank_of c.args.top)) c.args.elements.now c.loop-element.element-index c.element-item.result _ _ _ _ c.loop-element-test.true c.element-item.is
+    refl c.loop-element.invariant c.in_ok-push_at_rank.ensures
+
+pub returns : goal.returns
+returns c = grown_whole (map (spec.rank_of c.args.top)) c.args.elements.now c.loop-element.element-index _ _ c.loop-element-test.false refl c.loop-element.invariant
