@@ -15,6 +15,3 @@ mod written;
 pub use config::{Config, Group, PromPart, Rule, RuleFile};
 pub use job::{Job, StaticConfig};
 pub use written::{file_text, text};
-
-#[cfg(test)]
-mod tests;

@@ -41,6 +41,3 @@ pub use steps::Steps;
 pub use table::Table;
 pub use tags::{Tags, is_tag_key, is_tag_value};
 pub use text::Text;
-
-#[cfg(test)]
-mod tests;

@@ -24,6 +24,3 @@ pub use real::{DirFolder, StdSink, StdSource};
 pub use sink::{Sink, put_all};
 pub use source::{Failed, Source};
 pub use sure::{SureFolder, SureSink, SureSource};
-
-#[cfg(test)]
-mod tests;

@@ -13,6 +13,3 @@ mod shape;
 
 pub use line::{InputLine, is_blank, read_line};
 pub use shape::{Shape, ShapeRule};
-
-#[cfg(test)]
-mod tests;

@@ -9,6 +9,3 @@ mod step;
 
 pub use relabelling::relabel;
 pub use step::{Action, Step};
-
-#[cfg(test)]
-mod tests;

@@ -8,8 +8,6 @@
 mod answer;
 mod line;
 mod read_back;
-#[cfg(test)]
-mod tests;
 mod tick;
 mod view;
 

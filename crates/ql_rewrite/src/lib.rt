@@ -12,6 +12,3 @@ mod selectors;
 
 pub use enforcing::{EnforceFault, enforce};
 pub use printing::print;
-
-#[cfg(test)]
-mod tests;

@@ -14,6 +14,3 @@ pub use cut::tokens;
 pub use fault::TokenFault;
 pub use ql_tree::{Token, TokenKind};
 pub use strings::escape;
-
-#[cfg(test)]
-mod tests;

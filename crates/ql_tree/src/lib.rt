@@ -20,6 +20,3 @@ pub use tree::{AggregateOp, ArithOp, BinaryOp, Expr, Grouping, Matching, Side};
 pub use types::{ExprType, Shape, TypeFault};
 pub use typing::{child, type_of};
 pub use word::{Keyword, Word};
-
-#[cfg(test)]
-mod tests;

@@ -6,8 +6,6 @@
 mod results;
 mod rounds;
 mod states;
-#[cfg(test)]
-mod tests;
 mod view;
 
 pub use rounds::{next_round, round};

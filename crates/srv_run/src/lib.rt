@@ -9,8 +9,6 @@ mod event;
 mod reports;
 mod server;
 mod shares;
-#[cfg(test)]
-mod tests;
 mod tick;
 
 pub use event::{Event, EventFault};

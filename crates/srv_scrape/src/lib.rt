@@ -22,6 +22,3 @@ pub use pages::{Pages, Sample};
 pub use scraping::scrape;
 pub use target::Target;
 pub use tick::tick_entries;
-
-#[cfg(test)]
-mod tests;

@@ -8,8 +8,6 @@ mod entry;
 mod map;
 mod order;
 mod store;
-#[cfg(test)]
-mod tests;
 
 pub use entry::Entry;
 pub use map::LabelMap;
