@@ -1,15 +1,13 @@
 ghost use Rattle.std.specs.Prelude.{◌≡◌, ◌<◌};
 
-use crate::cells::{cell_of, number_of};
-use crate::compare::Tally;
 use crate::faults::{Faults, faults_of};
 use crate::listing::Listing;
 use crate::manifests::manifests_of;
 use crate::source_again::AgainSource;
-use crate::trouble::Trouble;
 use op_base::{List, Steps, Text};
 use op_edges::{Folder, MemFolder, MemSink, MemSource, Source};
 use operator_cli::{Status, operate};
+use operator_tables::{Tally, Trouble, cell_of, number_of};
 use std::alloc::Global;
 use std::marker::Brand;
 use std::sync::ledger::{Blank, Ledger};

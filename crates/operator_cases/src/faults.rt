@@ -1,6 +1,5 @@
-use crate::cells::number_of;
-use crate::trouble::Trouble;
 use op_base::List;
+use operator_tables::{Trouble, number_of};
 use std::alloc::Global;
 
 // The room of a sink where the case says nothing.

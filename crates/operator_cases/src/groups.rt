@@ -1,10 +1,8 @@
 use crate::case::run_case;
-use crate::compare::Tally;
 use crate::listing::Listing;
-use crate::tables::{Call, judge_table, store_of};
-use crate::trouble::Trouble;
 use op_base::Text;
 use op_edges::{Folder, Sink, put_all};
+use operator_tables::{Call, Tally, Trouble, judge_table, store_of};
 use srv_store::Store;
 use std::alloc::Global;
 
@@ -81,7 +79,8 @@ fn run_calls<F: Folder, O: Sink>(
             return Err(Trouble::Unreadable("a folder of tables has the name of no call"));
         };
         let tables = calls.open_in(alloc, folder, name.as_str())?;
-        let store = store_of(alloc, folder, &tables)?;
+        let entries = tables.text(alloc, folder, "store")?;
+        let store = store_of(alloc, entries.as_str())?;
         is_alike = run_tables(alloc, folder, out, &tables, call, &store, name.as_str())?
             && is_alike;
     }

@@ -1,6 +1,6 @@
-use crate::trouble::Trouble;
 use op_base::{List, Text};
 use op_edges::{FileRead, Folder};
+use operator_tables::Trouble;
 use std::alloc::Global;
 
 // The most bytes of a file.

@@ -1,26 +1,22 @@
 //! The program `operator_cases`: it runs cases, which are data, and compares what the product gives with
 //! what is wanted. `docs/cases.md` has the form of cases and tables.
 //!
-//! `groups.rt` walks through the folder, `case.rt` runs one case, and `tables` has a module for each
-//! call that has tables. Nothing here promises more than that it ends: what the calls give is promised
+//! `groups.rt` walks through the folder, and `case.rt` runs one case; the library `operator_tables` judges
+//! the rows of tables. Nothing here promises more than that it ends: what the calls give is promised
 //! by their own contracts, and what is wanted is said by the data.
 #![tactic(auto)]
 
 mod case;
-mod cells;
-mod compare;
 mod faults;
 mod groups;
 mod listing;
 mod manifests;
 mod source_again;
-mod tables;
-mod trouble;
 
 use crate::groups::run_all;
-use crate::trouble::Trouble;
 use op_base::Text;
 use op_edges::{DirFolder, StdSink, put_all};
+use operator_tables::Trouble;
 use std::env;
 use std::process::ExitCode;
 

@@ -1,8 +1,7 @@
-use crate::cells::{cells_of, is_row, number_of};
 use crate::listing::Listing;
-use crate::trouble::Trouble;
 use op_base::{List, Text};
 use op_edges::{Folder, MemFolder};
+use operator_tables::{Trouble, cells_of, is_row, number_of};
 use std::alloc::Global;
 
 /// The folder of a case's manifests, whose calls of these numbers fail.

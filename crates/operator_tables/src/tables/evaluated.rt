@@ -1,10 +1,8 @@
 use crate::cells::{cells_of, is_row};
-use crate::listing::Listing;
 use crate::tables::label_cells::{labels_of, push_labels};
 use crate::tables::{misfit, said};
 use crate::trouble::Trouble;
 use op_base::{Labels, List, Moment, NoMemory, Text};
-use op_edges::Folder;
 use ql_call::Outcome;
 use ql_eval::eval;
 use ql_parse::{ParseFault, parse};
@@ -12,15 +10,10 @@ use ql_tree::{Expr, ExprType, TypeFault, type_of};
 use srv_store::{Entry, Store};
 use std::alloc::Global;
 
-/// The entries of the file `store` among the tables; none where there is no such file.
-pub fn store_of<F: Folder>(
-    alloc: Global,
-    folder: &mut F,
-    tables: &Listing,
-) -> Result<Store, Trouble> {
-    let rows = tables.text(alloc, folder, "store")?;
+/// The store of the entries that these rows are.
+pub fn store_of(alloc: Global, rows: &str) -> Result<Store, Trouble> {
     let mut store = Store::new(alloc);
-    for row in rows.as_str().lines() {
+    for row in rows.lines() {
         if is_row(row) {
             let cells = cells_of(alloc, row)?;
             store.add(entry_of(alloc, cells.as_slice())?)?;
