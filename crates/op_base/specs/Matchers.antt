@@ -1,5 +1,5 @@
 -- What a matcher means on a label set, after PromQL: a missing label counts as the empty text.
-use Rattle.std.specs.Prelude.{ℕ, Bool, not, List, [], bytes_eq, unwrap_or}
+use Rattle.std.specs.Prelude.{◌≡◌, ℕ, Bool, false, not, List, [], Option, Some, None, bytes_eq, unwrap_or}
 use Rattle.op_base.specs.declared.matcher.MatchOp.{MatchOp}
 use Rattle.op_base.specs.declared.matcher.MatchOp.TheVariants.{Eq, Ne, Re, Nr}
 use Rattle.op_base.specs.declared.matcher.Matcher.{Matcher}
@@ -9,7 +9,7 @@ use Rattle.op_base.specs.declared.pattern.PatternFault.{PatternFault}
 use Rattle.op_base.specs.declared.pattern.PatternFault.TheVariants.{BadPattern, NoMemory}
 use Rattle.op_base.specs.Maps.{value_at}
 use Rattle.op_base.specs.Labels.{Texts}
-use Rattle.op_base.specs.Patterns.{IsPattern, pattern_matches}
+use Rattle.op_base.specs.Patterns.{IsPattern, meaning_of, pattern_matches}
 
 -- the value of a label, or the empty text
 abbrev pub label_value : Texts → List ℕ → List ℕ
@@ -37,3 +37,20 @@ HasPattern Nr text = IsPattern text
 abbrev pub fault_of : PatternFault → declared.MatchFault
 fault_of BadPattern = fault.BadPattern
 fault_of NoMemory = fault.NoMemory
+
+-- the matcher asks for no pattern, or its value is none
+abbrev pub AsksNone : MatchOp → List ℕ → Type 0
+AsksNone Eq text = Unit {0}
+AsksNone Ne text = Unit {0}
+AsksNone Re text = meaning_of text ≡ None
+AsksNone Nr text = meaning_of text ≡ None
+
+-- what was read of a matcher is the pattern of its value, where it asks for one
+abbrev pub IsPrepared : Matcher → Option (List ℕ) → Type 0
+IsPrepared matcher (Some pattern) = pattern ≡ matcher.value
+IsPrepared matcher None = AsksNone matcher.op matcher.value
+
+-- whether a value matches the pattern that was read, if any
+abbrev pub found_in : Option (List ℕ) → List ℕ → Bool
+found_in (Some pattern) value = pattern_matches pattern value
+found_in None value = false

@@ -2,6 +2,7 @@ ghost use Rattle.std.specs.Prelude.{◌≡◌, ◌<◌, [], length, IfOk, OnOk, 
 ghost use Rattle.std.specs.Option.{option_copied};
 ghost use Rattle.op_base.specs.Maps.{value_at, without_entry};
 ghost use Rattle.op_base.specs.Labels.{IsLabels, labels_with, name_in, text_in};
+ghost use Rattle.op_base.specs.Matchers.{label_value};
 
 use crate::entries::{find, put, remove};
 use crate::memory::NoMemory;
@@ -53,6 +54,16 @@ impl Labels {
         ensures labels { IsLabels self.now }
     {
         find(self.entries.as_slice(), name)
+    }
+
+    /// The value at the name; a missing label counts as the empty text.
+    pub fn value(&self, name: &str) -> &str
+        ensures { result.now ≡ label_value self.now name.now }
+    {
+        match self.get(name) {
+            Some(value) => value,
+            None => "",
+        }
     }
 
     /// Puts the value at the name, in place of any that stood there. An empty value removes the

@@ -1,5 +1,5 @@
 ghost use Rattle.std.specs.Prelude.{◌≡◌, not, Err, IfOk, OnOk};
-ghost use Rattle.op_base.specs.Matchers.{HasPattern, holds_on, label_value, passes};
+ghost use Rattle.op_base.specs.Matchers.{HasPattern, holds_on, passes};
 ghost use Rattle.op_base.specs.Patterns.{IsPattern, pattern_matches};
 
 use crate::labels::Labels;
@@ -67,7 +67,7 @@ impl Matcher {
         ensures read { OnOk result (HasPattern self.now.op self.now.value) }
         ensures refused { result ≡ Err MatchFault.BadPattern → ¬ (HasPattern self.now.op self.now.value) }
     {
-        let value = value_of(labels, self.name.as_str());
+        let value = labels.value(self.name.as_str());
         let text = self.value.as_str();
         match self.op {
             MatchOp::Eq => Ok(text.as_bytes() == value.as_bytes()),
@@ -75,15 +75,6 @@ impl Matcher {
             MatchOp::Re => matches(alloc, text, value),
             MatchOp::Nr => Ok(!matches(alloc, text, value)?),
         }
-    }
-}
-
-fn value_of<'a>(labels: &'a Labels, name: &str) -> &'a str
-    ensures { result.now ≡ label_value labels.now name.now }
-{
-    match labels.get(name) {
-        Some(value) => value,
-        None => "",
     }
 }
 

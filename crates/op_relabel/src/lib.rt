@@ -4,8 +4,10 @@
 //! defaults of a step and the steps that copy a label or put a value.
 #![tactic(auto)]
 
+mod prepared;
 mod relabelling;
 mod step;
 
-pub use relabelling::relabel;
+pub use prepared::{PreparedStep, prepare};
+pub use relabelling::{relabel, relabel_by};
 pub use step::{Action, Step};

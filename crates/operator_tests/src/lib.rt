@@ -17,6 +17,8 @@ mod reports;
 #[cfg(test)]
 mod rules;
 #[cfg(test)]
+mod scrapes;
+#[cfg(test)]
 mod steps;
 #[cfg(test)]
 mod store;

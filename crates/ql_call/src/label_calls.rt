@@ -8,7 +8,7 @@ ghost use Rattle.ql_call.specs.Operands.{text_of as text_in};
 
 use crate::changed::Changed;
 use crate::clashes::gathered;
-use crate::labels::{value_of, with_label};
+use crate::labels::with_label;
 use crate::operand::{Operand, text_of};
 use crate::operators::changed_to;
 use crate::outcome::Outcome;
@@ -92,7 +92,7 @@ fn push_replaced(
     ensures { OnOk result (changed.new ≡ changed.old
         ++ spec.replaced target.now replacement.now source.now pattern.now element.now ∷ []) }
 {
-    let value = pattern.expand(value_of(&element.0, source), replacement)?;
+    let value = pattern.expand(element.0.value(source), replacement)?;
     let to = replaced(&element.0, target, value)?;
     changed.push(changed_to(&element.0, to, &element.1)?)
 }
@@ -169,7 +169,7 @@ fn joined(
     match sources {
         [] => Ok(Text::new(alloc)),
         [first, others @ ..] => {
-            let mut text = Text::from_str(alloc, value_of(labels, text_of(first)))?;
+            let mut text = Text::from_str(alloc, labels.value(text_of(first)))?;
             push_each(&mut text, separator, others, labels)?;
             Ok(text)
         }
@@ -186,7 +186,7 @@ fn push_each(
         ++ steps.each_behind separator.now (map (label_value labels.now) (map text_in sources.now))) }
 {
     for source in sources {
-        push_behind(text, separator, value_of(labels, text_of(source)))?;
+        push_behind(text, separator, labels.value(text_of(source)))?;
     }
     Ok(())
 }

@@ -34,7 +34,7 @@ pub(crate) fn include(labels: &mut Labels, name: &str, others: &Labels) -> Resul
     ensures { OnOk result (labels.new
         ≡ labels_with labels.old name.now (label_value others.now name.now)) }
 {
-    labels.set(name, value_of(others, name))
+    labels.set(name, others.value(name))
 }
 
 /// The labels of all other names.
@@ -55,14 +55,4 @@ pub(crate) fn with_label(labels: &Labels, name: &str, value: &str) -> Result<Lab
     let mut to = labels.copy()?;
     to.set(name, value)?;
     Ok(to)
-}
-
-/// The value of a label; a missing one is the empty text.
-pub(crate) fn value_of<'a>(labels: &'a Labels, name: &str) -> &'a str
-    ensures { result.now ≡ label_value labels.now name.now }
-{
-    match labels.get(name) {
-        Some(value) => value,
-        None => "",
-    }
 }

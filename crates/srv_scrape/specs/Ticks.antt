@@ -20,13 +20,13 @@ manner_of job = record { honor = job.honor_labels; steps = job.metric_relabel_co
 abbrev pub HavePatterns : List Job → Type 0
 HavePatterns jobs = AllByRecursion (λ job. HasPatterns job.relabel_configs × HasPatterns job.metric_relabel_configs) jobs
 
--- the entries of the scrapes of these targets of a job
-abbrev pub target_entries : Pages → Moment → Job → List Target → List Entry
-target_entries pages t job targets = flat_map (λ target. scraped (manner_of job) target (page_at pages target.url) t) targets
+-- the entries of the scrapes of these targets in one manner
+abbrev pub target_entries : Pages → Moment → Manner → List Target → List Entry
+target_entries pages t manner targets = flat_map (λ target. scraped manner target (page_at pages target.url) t) targets
 
 -- the entries of a job's scrapes
 abbrev pub job_entries : Pages → Moment → Job → List Entry
-job_entries pages t job = target_entries pages t job (job_targets job)
+job_entries pages t job = target_entries pages t (manner_of job) (job_targets job)
 
 -- the entries of all scrapes, job after job
 abbrev pub scraped_entries : Pages → Moment → List Job → List Entry

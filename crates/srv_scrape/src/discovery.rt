@@ -4,12 +4,12 @@ ghost use Rattle.op_relabel.specs.Relabelled.{HasPatterns};
 ghost use Rattle.srv_scrape.specs.Joined.{scraped_over};
 ghost use Rattle.srv_scrape.specs.Targets as spec;
 
-use crate::labels::{has_name, put_default, put_texts, value_of};
+use crate::labels::{has_name, put_default, put_texts};
 use crate::target::Target;
 use crate::url::url_of;
 use cfg_types::Job;
 use op_base::{Labels, List, NoMemory, Text};
-use op_relabel::relabel;
+use op_relabel::{PreparedStep, prepare, relabel_by};
 use std::alloc::Global;
 
 /// The targets of a job, in the order of its static ones. An address that the job's steps drop, or
@@ -18,9 +18,10 @@ pub fn targets(alloc: Global, job: &Job) -> Result<List<Target>, NoMemory>
     requires { HasPatterns job.now.relabel_configs }
     ensures { IfOk result (λ targets. targets ≡ spec.job_targets job.now) }
 {
+    let steps = prepare(alloc, &job.relabel_configs)?;
     let mut targets = List::new(alloc);
     for address in job.static_configs.targets.as_slice() {
-        push_target(alloc, &mut targets, job, address.as_str())?;
+        push_target(alloc, &mut targets, job, &steps, address.as_str())?;
     }
     Ok(targets)
 }
@@ -29,24 +30,30 @@ fn push_target(
     alloc: Global,
     targets: &mut List<Target>,
     job: &Job,
+    steps: &List<PreparedStep>,
     address: &str,
 ) -> Result<(), NoMemory>
-    requires { HasPatterns job.now.relabel_configs }
+    requires { steps.now ≡ job.now.relabel_configs }
     ensures { OnOk result (targets.new
         ≡ targets.old ++ filter_map (spec.target_at job.now) (address.now ∷ [])) }
 {
-    match target_at(alloc, job, address)? {
+    match target_at(alloc, job, steps, address)? {
         Some(target) => targets.push(target),
         None => Ok(()),
     }
 }
 
-fn target_at(alloc: Global, job: &Job, address: &str) -> Result<Option<Target>, NoMemory>
-    requires { HasPatterns job.now.relabel_configs }
+fn target_at(
+    alloc: Global,
+    job: &Job,
+    steps: &List<PreparedStep>,
+    address: &str,
+) -> Result<Option<Target>, NoMemory>
+    requires { steps.now ≡ job.now.relabel_configs }
     ensures { IfOk result (λ target. target ≡ spec.target_at job.now address.now) }
 {
     let labels = discovered(alloc, job, address)?;
-    match relabel(alloc, &job.relabel_configs, &labels)? {
+    match relabel_by(alloc, steps, &labels)? {
         Some(labels) => target_from(alloc, labels),
         None => Ok(None),
     }
@@ -93,7 +100,7 @@ fn target_labels(alloc: Global, labels: Labels) -> Result<Labels, NoMemory>
     ensures { IfOk result (λ own. own ≡ spec.target_labels labels) }
 {
     let mut labels = labels;
-    let address = Text::from_str(alloc, value_of(&labels, "__address__"))?;
+    let address = Text::from_str(alloc, labels.value("__address__"))?;
     put_default(&mut labels, "instance", address.as_str())?;
     own_labels(alloc, &labels)
 }

@@ -6,7 +6,7 @@ ghost use Rattle.srv_scrape.specs.Ticks as spec;
 
 use crate::discovery::targets;
 use crate::pages::Pages;
-use crate::scraping::scrape;
+use crate::scraping::{Manner, manner_of, scrape_by};
 use crate::target::Target;
 use cfg_types::Job;
 use op_base::{List, Moment, NoMemory};
@@ -56,22 +56,22 @@ fn push_job(
     ensures { OnOk result (entries.new ≡ entries.old ++ spec.job_entries pages.now t job.now) }
 {
     let targets = targets(alloc, job)?;
-    push_scrapes(alloc, entries, job, targets.as_slice(), pages, t)
+    let manner = manner_of(alloc, job)?;
+    push_scrapes(alloc, entries, &manner, targets.as_slice(), pages, t)
 }
 
 fn push_scrapes(
     alloc: Global,
     entries: &mut List<Entry>,
-    job: &Job,
+    manner: &Manner,
     targets: &[Target],
     pages: &Pages,
     t: Moment,
 ) -> Result<(), NoMemory>
-    requires { HasPatterns job.now.metric_relabel_configs }
-    ensures { OnOk result (entries.new ≡ entries.old ++ spec.target_entries pages.now t job.now targets.now) }
+    ensures { OnOk result (entries.new ≡ entries.old ++ spec.target_entries pages.now t manner.now targets.now) }
 {
     for target in targets {
-        push_scrape(alloc, entries, job, target, pages, t)?;
+        push_scrape(alloc, entries, manner, target, pages, t)?;
     }
     Ok(())
 }
@@ -79,15 +79,14 @@ fn push_scrapes(
 fn push_scrape(
     alloc: Global,
     entries: &mut List<Entry>,
-    job: &Job,
+    manner: &Manner,
     target: &Target,
     pages: &Pages,
     t: Moment,
 ) -> Result<(), NoMemory>
-    requires { HasPatterns job.now.metric_relabel_configs }
     ensures { OnOk result (entries.new ≡ entries.old
-        ++ scraped (spec.manner_of job.now) target.now (page_at pages.now target.now.url) t) }
+        ++ scraped manner.now target.now (page_at pages.now target.now.url) t) }
 {
-    let scraped = scrape(alloc, job, target, pages, t)?;
+    let scraped = scrape_by(alloc, manner, target, pages, t)?;
     entries.append(scraped)
 }

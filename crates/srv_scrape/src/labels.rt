@@ -1,6 +1,5 @@
 // What is asked of label sets, and put into them.
 ghost use Rattle.std.specs.Prelude.{◌≡◌, OnOk};
-ghost use Rattle.op_base.specs.Matchers.{label_value};
 ghost use Rattle.srv_scrape.specs.Joined as join;
 ghost use Rattle.srv_scrape.specs.Targets as spec;
 
@@ -10,16 +9,6 @@ pub(crate) fn has_name(labels: &Labels, name: &str) -> bool
     ensures { result ≡ join.has_name labels.now name.now }
 {
     labels.get(name).is_some()
-}
-
-// The label's value; a missing label counts as the empty text.
-pub(crate) fn value_of<'a>(labels: &'a Labels, name: &str) -> &'a str
-    ensures { result.now ≡ label_value labels.now name.now }
-{
-    match labels.get(name) {
-        Some(value) => value,
-        None => "",
-    }
 }
 
 // Puts the label where none of its name is there.

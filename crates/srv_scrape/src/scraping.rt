@@ -3,7 +3,7 @@ ghost use Rattle.std.specs.List.{filter_map};
 ghost use Rattle.op_relabel.specs.Relabelled.{HasPatterns};
 ghost use Rattle.srv_scrape.specs.Pages.{page_at};
 ghost use Rattle.srv_scrape.specs.Scraped as spec;
-ghost use Rattle.srv_scrape.specs.Ticks.{manner_of};
+ghost use Rattle.srv_scrape.specs.Ticks as ticks;
 
 use crate::join::joined;
 use crate::labels::has_name;
@@ -11,9 +11,10 @@ use crate::pages::{Pages, Sample};
 use crate::target::Target;
 use cfg_types::Job;
 use op_base::{Labels, List, Moment, NoMemory};
-use op_relabel::relabel;
+use op_relabel::{PreparedStep, prepare, relabel_by};
 use srv_store::Entry;
 use std::alloc::Global;
+use std::marker::Model;
 
 /// The entries of one scrape of a target: the samples of its page that the job's steps leave, and
 /// then `up`, which is 1, or 0 alone where the scrape failed. It takes time linear in the samples,
@@ -27,11 +28,52 @@ pub fn scrape(
 ) -> Result<List<Entry>, NoMemory>
     requires { HasPatterns job.now.metric_relabel_configs }
     ensures { IfOk result (λ entries. entries
-        ≡ spec.scraped (manner_of job.now) target.now (page_at pages.now target.now.url) t) }
+        ≡ spec.scraped (ticks.manner_of job.now) target.now (page_at pages.now target.now.url) t) }
+{
+    scrape_by(alloc, &manner_of(alloc, job)?, target, pages, t)
+}
+
+/// How a job's samples are scraped: the patterns of the steps that they go through were read. Contracts see
+/// the manner of the definitions, without forced labels.
+#[derive(Drop)]
+pub(crate) struct Manner<'a> {
+    honor_labels: bool,
+    steps: List<PreparedStep<'a>>,
+}
+
+impl<'a> Model for Manner<'a> {
+    ghost use Rattle.std.specs.Prelude.{[]};
+    ghost use Rattle.srv_scrape.specs.Scraped.{Manner as Seen};
+
+    ghost Value = { Seen };
+
+    ghost view = { λ manner. record { honor = manner.honor_labels; steps = manner.steps; force = [] } };
+}
+
+pub(crate) fn manner_of<'a>(alloc: Global, job: &'a Job) -> Result<Manner<'a>, NoMemory>
+    requires { HasPatterns job.now.metric_relabel_configs }
+    ensures { IfOk result (λ manner. manner ≡ ticks.manner_of job.now) }
+{
+    Ok(Manner {
+        honor_labels: job.honor_labels,
+        steps: prepare(alloc, &job.metric_relabel_configs)?,
+    })
+}
+
+/// The same as `scrape`, for many targets of one job.
+pub(crate) fn scrape_by(
+    alloc: Global,
+    manner: &Manner,
+    target: &Target,
+    pages: &Pages,
+    t: Moment,
+) -> Result<List<Entry>, NoMemory>
+    ensures { IfOk result (λ entries. entries
+        ≡ spec.scraped manner.now target.now (page_at pages.now target.now.url) t) }
 {
     match pages.get(target.url.as_str()) {
         Some(samples) => {
-            let left = all_left(alloc, job, target, samples.as_slice())?;
+            let left = all_left(alloc, manner, target, samples.as_slice())?;
             entries_of(alloc, target, t, left)
         }
         None => failed_scrape(alloc, target, t),
@@ -41,16 +83,15 @@ pub fn scrape(
 // What the job's steps leave of the samples.
 fn all_left(
     alloc: Global,
-    job: &Job,
+    manner: &Manner,
     target: &Target,
     samples: &[Sample],
 ) -> Result<List<Sample>, NoMemory>
-    requires { HasPatterns job.now.metric_relabel_configs }
-    ensures { IfOk result (λ left. left ≡ spec.all_left (manner_of job.now) target.now samples.now) }
+    ensures { IfOk result (λ left. left ≡ spec.all_left manner.now target.now samples.now) }
 {
     let mut left = List::new(alloc);
     for sample in samples {
-        push_left(alloc, &mut left, job, target, sample)?;
+        push_left(alloc, &mut left, manner, target, sample)?;
     }
     Ok(left)
 }
@@ -58,15 +99,14 @@ fn all_left(
 fn push_left(
     alloc: Global,
     left: &mut List<Sample>,
-    job: &Job,
+    manner: &Manner,
     target: &Target,
     sample: &Sample,
 ) -> Result<(), NoMemory>
-    requires { HasPatterns job.now.metric_relabel_configs }
     ensures { OnOk result (left.new
-        ≡ left.old ++ filter_map (spec.left_of (manner_of job.now) target.now) (sample.now ∷ [])) }
+        ≡ left.old ++ filter_map (spec.left_of manner.now target.now) (sample.now ∷ [])) }
 {
-    match left_of(alloc, job, target, sample)? {
+    match left_of(alloc, manner, target, sample)? {
         Some(sample) => left.push(sample),
         None => Ok(()),
     }
@@ -74,15 +114,14 @@ fn push_left(
 
 fn left_of(
     alloc: Global,
-    job: &Job,
+    manner: &Manner,
     target: &Target,
     sample: &Sample,
 ) -> Result<Option<Sample>, NoMemory>
-    requires { HasPatterns job.now.metric_relabel_configs }
-    ensures { IfOk result (λ left. left ≡ spec.left_of (manner_of job.now) target.now sample.now) }
+    ensures { IfOk result (λ left. left ≡ spec.left_of manner.now target.now sample.now) }
 {
-    let labels = joined(alloc, job.honor_labels, &target.labels, &sample.labels)?;
-    match relabel(alloc, &job.metric_relabel_configs, &labels)? {
+    let labels = joined(alloc, manner.honor_labels, &target.labels, &sample.labels)?;
+    match relabel_by(alloc, &manner.steps, &labels)? {
         Some(labels) => Ok(left_with(labels, sample.value)),
         None => Ok(None),
     }

@@ -2,7 +2,6 @@ ghost use Rattle.std.specs.Prelude.{◌≡◌, ◌++◌, ◌∷◌, [], map, opt
 ghost use Rattle.std.specs.List.{filter_map};
 ghost use Rattle.srv_scrape.specs.Targets as spec;
 
-use crate::labels::value_of;
 use form_urlencoded::Serializer;
 use op_base::{Labels, NoMemory, Text};
 use std::alloc::Global;
@@ -11,10 +10,10 @@ use std::alloc::Global;
 pub(crate) fn url_of(alloc: Global, labels: &Labels) -> Result<Text, NoMemory>
     ensures { IfOk result (λ url. url ≡ spec.url_of labels.now) }
 {
-    let mut url = Text::from_str(alloc, value_of(labels, "__scheme__"))?;
+    let mut url = Text::from_str(alloc, labels.value("__scheme__"))?;
     url.push_str("://")?;
-    url.push_str(value_of(labels, "__address__"))?;
-    url.push_str(value_of(labels, "__metrics_path__"))?;
+    url.push_str(labels.value("__address__"))?;
+    url.push_str(labels.value("__metrics_path__"))?;
     let parameters = parameters_of(alloc, labels)?;
     push_query(alloc, &mut url, parameters.as_slice())?;
     Ok(url)

@@ -1,13 +1,12 @@
 ghost use Rattle.std.specs.Prelude.{◌≡◌, [], ◌∷◌, ◌++◌, ◌&&◌, not, length, fold, map, IfOk, OnOk, OnErr};
 ghost use Rattle.std.specs.List.{flat_map};
 ghost use Rattle.std.specs.Option.{option_copied};
-ghost use Rattle.op_base.specs.Matchers.{holds_on};
 ghost use Rattle.srv_store.specs.Stores as spec;
 
 use crate::entry::Entry;
 use crate::map::LabelMap;
 use crate::order::in_order;
-use op_base::{Labels, List, MatchFault, MatchOp, Matcher, Moment, NoMemory};
+use op_base::{Labels, List, Matcher, Moment, NoMemory, PreparedMatcher};
 use std::alloc::Global;
 use std::marker::Model;
 
@@ -100,6 +99,7 @@ impl Store {
     ) -> Result<List<Entry>, NoMemory>
         ensures { IfOk result (λ entries. entries ≡ spec.newest self.now matchers.now from.now to.now) }
     {
+        let matchers = prepared(self.alloc, matchers.as_slice())?;
         let found = latest(
             self.alloc,
             self.entries.as_slice(),
@@ -133,6 +133,7 @@ impl Store {
     ) -> Result<List<Entry>, NoMemory>
         ensures { IfOk result (λ entries. entries ≡ spec.selected self.now matchers.now from.now to.now) }
     {
+        let matchers = prepared(self.alloc, matchers.as_slice())?;
         let found = window(
             self.alloc,
             self.entries.as_slice(),
@@ -148,7 +149,7 @@ impl Store {
 fn latest(
     alloc: Global,
     entries: &[Entry],
-    matchers: &[Matcher],
+    matchers: &[PreparedMatcher],
     from: &i128,
     to: &i128,
 ) -> Result<LabelMap<Entry>, NoMemory>
@@ -156,7 +157,7 @@ fn latest(
 {
     let mut found = LabelMap::new(alloc);
     for entry in entries {
-        put_newer(alloc, &mut found, entry, matchers, from, to)?;
+        put_newer(&mut found, entry, matchers, from, to)?;
     }
     Ok(found)
 }
@@ -181,16 +182,15 @@ fn is_twin(this: &Entry, that: &Entry) -> bool
 
 // The entry stands for its labels, where it is in the window and none that is as new stands there.
 fn put_newer(
-    alloc: Global,
     found: &mut LabelMap<Entry>,
     entry: &Entry,
-    matchers: &[Matcher],
+    matchers: &[PreparedMatcher],
     from: &i128,
     to: &i128,
 ) -> Result<(), NoMemory>
     ensures { OnOk result (found.new ≡ fold spec.with_newer found.old (spec.window (entry.now ∷ []) matchers.now from.now to.now)) }
 {
-    if is_wanted(alloc, entry, matchers, from, to)? && is_newer(found.get(&entry.labels), entry) {
+    if is_wanted(entry, matchers, from, to)? && is_newer(found.get(&entry.labels), entry) {
         found.insert(entry.labels.copy()?, entry.copy()?)?;
     }
     Ok(())
@@ -198,16 +198,15 @@ fn put_newer(
 
 // The entry is in the window.
 fn is_wanted(
-    alloc: Global,
     entry: &Entry,
-    matchers: &[Matcher],
+    matchers: &[PreparedMatcher],
     from: &i128,
     to: &i128,
 ) -> Result<bool, NoMemory>
     ensures { IfOk result (λ wanted. wanted
         ≡ (spec.is_within from.now to.now entry.now.at && spec.all_hold matchers.now entry.now.labels)) }
 {
-    Ok(is_within(entry.at, from, to) && all_hold(alloc, matchers, &entry.labels)?)
+    Ok(is_within(entry.at, from, to) && all_hold(matchers, &entry.labels)?)
 }
 
 fn is_within(at: Moment, from: &i128, to: &i128) -> bool
@@ -217,26 +216,29 @@ fn is_within(at: Moment, from: &i128, to: &i128) -> bool
     *from <= at && at <= *to
 }
 
-fn all_hold(alloc: Global, matchers: &[Matcher], labels: &Labels) -> Result<bool, NoMemory>
+fn all_hold(matchers: &[PreparedMatcher], labels: &Labels) -> Result<bool, NoMemory>
     ensures { IfOk result (λ holds. holds ≡ spec.all_hold matchers.now labels.now) }
 {
     for matcher in matchers {
-        if !holds(alloc, matcher, labels)? {
+        if !matcher.holds(labels)? {
             return Ok(false);
         }
     }
     Ok(true)
 }
 
-// A text that is no pattern matches no value.
-fn holds(alloc: Global, matcher: &Matcher, labels: &Labels) -> Result<bool, NoMemory>
-    ensures { IfOk result (λ holds. holds ≡ holds_on matcher.now labels.now) }
+// The matchers, each with its pattern.
+fn prepared<'a>(
+    alloc: Global,
+    matchers: &'a [Matcher],
+) -> Result<List<PreparedMatcher<'a>>, NoMemory>
+    ensures { IfOk result (λ prepared. prepared ≡ matchers.now) }
 {
-    match matcher.holds(alloc, labels) {
-        Ok(holds) => Ok(holds),
-        Err(MatchFault::BadPattern) => Ok(matcher.op == MatchOp::Nr),
-        Err(MatchFault::NoMemory) => Err(NoMemory),
+    let mut all = List::new(alloc);
+    for matcher in matchers {
+        all.push(PreparedMatcher::new(alloc, matcher)?)?;
     }
+    Ok(all)
 }
 
 fn is_newer(found: Option<&Entry>, entry: &Entry) -> bool
@@ -271,7 +273,7 @@ fn push_found(entries: &mut List<Entry>, entry: Entry) -> Result<(), NoMemory>
 fn window(
     alloc: Global,
     entries: &[Entry],
-    matchers: &[Matcher],
+    matchers: &[PreparedMatcher],
     from: &i128,
     to: &i128,
 ) -> Result<List<Entry>, NoMemory>
@@ -279,22 +281,21 @@ fn window(
 {
     let mut found = List::new(alloc);
     for entry in entries {
-        push_within(alloc, &mut found, entry, matchers, from, to)?;
+        push_within(&mut found, entry, matchers, from, to)?;
     }
     Ok(found)
 }
 
 fn push_within(
-    alloc: Global,
     found: &mut List<Entry>,
     entry: &Entry,
-    matchers: &[Matcher],
+    matchers: &[PreparedMatcher],
     from: &i128,
     to: &i128,
 ) -> Result<(), NoMemory>
     ensures { OnOk result (found.new ≡ found.old ++ spec.window (entry.now ∷ []) matchers.now from.now to.now) }
 {
-    if is_wanted(alloc, entry, matchers, from, to)? {
+    if is_wanted(entry, matchers, from, to)? {
         found.push(entry.copy()?)?;
     }
     Ok(())

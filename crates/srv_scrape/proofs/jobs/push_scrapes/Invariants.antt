@@ -4,4 +4,4 @@ use Rattle.srv_scrape.proofs.jobs.push_scrapes.Given as goal
 
 abbrev pub invariant-loop-target : goal.invariant-loop-target
 invariant-loop-target l =
-    l.entries ≡ l.initial.entries ++ spec.target_entries l.pages l.t l.job (take l.target-index l.targets)
+    l.entries ≡ l.initial.entries ++ spec.target_entries l.pages l.t l.manner (take l.target-index l.targets)

@@ -1,0 +1,67 @@
+//! Relabelling and scraping of one thing by itself: a run prepares a job's steps for many.
+
+ghost use Rattle.std.specs.Prelude.{IfOk};
+ghost use Rattle.op_relabel.specs.Relabelled.{HasPatterns};
+
+use crate::things::{label, text};
+use cfg_types::{Job, StaticConfig};
+use op_base::{List, Moment, NoMemory, Span, Tags};
+use op_relabel::{Step, relabel};
+use srv_scrape::{Pages, Target, scrape};
+use std::alloc::Global;
+use std::test::Fail;
+
+fn copying(alloc: Global) -> Result<List<Step>, NoMemory>
+    ensures { IfOk result HasPatterns }
+{
+    let mut steps = List::new(alloc);
+    steps.push(Step::copy_label(alloc, "a", "b")?)?;
+    Ok(steps)
+}
+
+fn is_copied(alloc: Global) -> Result<bool, NoMemory> {
+    match relabel(alloc, &copying(alloc)?, &label(alloc, "a", "x")?)? {
+        Some(left) => Ok(left.get("b") == Some("x")),
+        None => Ok(false),
+    }
+}
+
+#[test]
+fn a_step_copies_a_label(rt: HostRuntime) -> Result<(), Fail> {
+    assert!(rt; is_copied(rt.alloc())?);
+    Ok(())
+}
+
+fn job(alloc: Global) -> Result<Job, NoMemory>
+    ensures { IfOk result (λ job. HasPatterns job.metric_relabel_configs) }
+{
+    Ok(Job {
+        honor_labels: false,
+        job_name: text(alloc, "j")?,
+        metric_relabel_configs: List::new(alloc),
+        metrics_path: text(alloc, "/metrics")?,
+        relabel_configs: List::new(alloc),
+        scheme: text(alloc, "http")?,
+        scrape_interval: Span(30_000),
+        scrape_timeout: Span(10_000),
+        static_configs: StaticConfig {
+            labels: Tags::new(alloc),
+            targets: List::new(alloc),
+        },
+    })
+}
+
+// How many entries a scrape without a page gives.
+fn entries_without_a_page(alloc: Global) -> Result<usize, NoMemory> {
+    let target = Target {
+        labels: label(alloc, "job", "j")?,
+        url: text(alloc, "u")?,
+    };
+    Ok(scrape(alloc, &job(alloc)?, &target, &Pages::new(alloc), Moment(0))?.len())
+}
+
+#[test]
+fn a_scrape_without_a_page_gives_up_alone(rt: HostRuntime) -> Result<(), Fail> {
+    assert!(rt; entries_without_a_page(rt.alloc())? == 1);
+    Ok(())
+}
