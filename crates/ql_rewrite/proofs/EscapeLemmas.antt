@@ -7,7 +7,7 @@ use Rattle.std.specs.Str.{chars, IsUtf8}
 use Rattle.std.proofs.lemmas.Grind.{flat_map-append}
 use Rattle.std.proofs.lemmas.Str.{encodes-chars, encode_ascii, inside_one}
 use Rattle.std.proofs.Math.Utf8.{encodes}
-use Rattle.ql_tree.specs.Printed.{escaped}
+use Rattle.ql_tree.specs.Pieces.{escaped}
 
 kept_byte : (b : ℕ) → b ≢ 34 → b ≢ 92 → b ≢ 10 → escaped b ≡ b ∷ []
 kept_byte b quote backslash newline = search rules

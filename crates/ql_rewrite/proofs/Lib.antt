@@ -3,12 +3,9 @@ mod EnforcedLemmas
 mod EscapeLemmas
 mod NumberLemmas
 mod PieceLemmas
-mod Pieces
-mod PiecesText
 mod PrintLemmas
 mod PrintedClauses
 mod PrintedNodes
-mod PrintedText
 mod PrintedWritten
 mod QuoteLemmas
 mod RunLemmas

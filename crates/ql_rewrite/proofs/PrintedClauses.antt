@@ -1,13 +1,14 @@
 -- The words of a printed selector, and of the clauses with labels, spell it.
 use Rattle.std.proofs.Common.{◌≡◌, ℕ, suc, ◌<◌, ℤ, pos, negsuc, Bool, true, false, List, [], ◌∷◌, ◌++◌, Option, Some, None, codes, refl, ap, ◌∙◌, zero-le, append_assoc, le-ltb}
-use Rattle.std.specs.List.{AllByRecursion as Each}
-use Rattle.std.proofs.lemmas.List.{map-append}
+use Rattle.std.specs.List.{AllByRecursion as Each, join_by}
 use Rattle.op_base.specs.declared.matcher.Matcher.{Matcher}
 use Rattle.op_base.specs.declared.matcher.MatchOp.{MatchOp}
 use Rattle.op_base.specs.declared.matcher.MatchOp.TheVariants as match
 use Rattle.op_base.specs.declared.span.Span.{Span}
 use Rattle.ql_tree.specs.Clauses.{Labels, SideOf, MatchingOf, GroupingOf}
 use Rattle.ql_tree.specs.Operators.{matching_of, side_of, grouping_of}
+use Rattle.ql_tree.specs.Pieces.{Piece, written}
+use Rattle.ql_tree.specs.Printed.{comma, label_pieces, side_word, side_pieces, matching_word, matching_pieces, grouping_word, grouping_pieces, match_word, matcher_pieces, head_pieces, range_pieces, offset_pieces, distance_pieces, selector_pieces}
 use Rattle.ql_tree.specs.Selecting.{match_of, MatcherOf, Matchers, Head, RangeOf, OffsetOf, SelectorOf}
 use Rattle.ql_tree.specs.Words.{keyword_of, span_of}
 use Rattle.ql_tree.specs.declared.tree.Expr.TheVariants as expr
@@ -18,30 +19,36 @@ use Rattle.ql_tree.specs.declared.word.Keyword.TheVariants as keyword
 use Rattle.ql_tree.specs.declared.word.Word.{Word}
 use Rattle.ql_tree.specs.declared.word.Word.TheVariants as word
 use Rattle.ql_tree.proofs.Inherited.{AreLabels, IsSide, IsMatching, IsMatcher, IsNamed, IsRange}
-use Rattle.ql_rewrite.proofs.Pieces.{Piece, close, word_of_piece, words_of, label_pieces, side_word, side_pieces, matching_word, matching_pieces, grouping_word, match_word, matcher_pieces, matchers_pieces, head_pieces, range_pieces, offset_pieces, distance_pieces}
+use Rattle.ql_rewrite.proofs.Written.{words_of}
 
 pub words-append : (ps qs : List Piece) → words_of (ps ++ qs) ≡ words_of ps ++ words_of qs
-words-append ps qs = map-append word_of_piece ps qs
+words-append [] qs = refl
+words-append (Piece.blank ∷ ps) qs = words-append ps qs
+words-append (Piece.written w ∷ ps) qs = ap (λ ts. w ∷ ts) (words-append ps qs)
 
 -- the words before a last one, and those before one in the middle
 pub before_last : (ps : List Piece) (w : Word)
-    → words_of (ps ++ (close w ∷ [])) ≡ words_of ps ++ (w ∷ [])
-before_last ps w = words-append ps (close w ∷ [])
+    → words_of (ps ++ (written w ∷ [])) ≡ words_of ps ++ (w ∷ [])
+before_last ps w = words-append ps (written w ∷ [])
 
 pub around : (ps qs : List Piece) (w : Word)
-    → words_of ((ps ++ (close w ∷ [])) ++ qs) ≡ words_of ps ++ (w ∷ words_of qs)
-around ps qs w = ap words_of (append_assoc ps (close w ∷ []) qs) ∙ words-append ps (close w ∷ qs)
+    → words_of ((ps ++ (written w ∷ [])) ++ qs) ≡ words_of ps ++ (w ∷ words_of qs)
+around ps qs w = ap words_of (append_assoc ps (written w ∷ []) qs) ∙ words-append ps (written w ∷ qs)
+
+-- `a, b`
+abbrev inner_labels : List (List ℕ) → List Piece
+inner_labels labels = join_by label_pieces comma labels
 
 labels_spelled : (labels : List (List ℕ)) → AreLabels labels
-    → Labels labels (words_of (label_pieces labels))
+    → Labels labels (words_of (inner_labels labels))
 labels_spelled [] are = Labels.none
 labels_spelled (label ∷ []) are = Labels.last (keyword_of label) label are.0
 labels_spelled (label ∷ next ∷ rest) are =
-    Labels.more (keyword_of label) label (next ∷ rest) (words_of (label_pieces (next ∷ rest))) are.0
+    Labels.more (keyword_of label) label (next ∷ rest) (words_of (inner_labels (next ∷ rest))) are.0
     (labels_spelled (next ∷ rest) are.1)
 
 side_is : (left : Bool) → side_of (side_word left) ≡ Some left
-unfolding side_of
+unfolding side_of side_word
 side_is true = refl
 side_is false = refl
 
@@ -49,13 +56,13 @@ side_spelled : (n : ℕ) (opens : Bool) (side : Option Side) → 0 < n → IsSid
     → SideOf n opens side (words_of (side_pieces side))
 side_spelled n opens None some is = SideOf.none
 side_spelled n opens (Some side) some is =
-    rw (before_last (label_pieces side.include) word.Close)
+    rw (before_last (inner_labels side.include) word.Close)
     (SideOf.listed (side_word side.left) side.left side.include
-    (words_of (label_pieces side.include)) (side_is side.left) some
+    (words_of (inner_labels side.include)) (side_is side.left) some
     (labels_spelled side.include is))
 
 matching_is : (on : Bool) → matching_of (matching_word on) ≡ Some on
-unfolding matching_of
+unfolding matching_of matching_word
 matching_is true = refl
 matching_is false = refl
 
@@ -63,26 +70,30 @@ pub matching_spelled : (n : ℕ) (opens : Bool) (m : Option Matching) → 0 < n 
     → MatchingOf n opens m (words_of (matching_pieces m))
 matching_spelled n opens None some is = MatchingOf.none
 matching_spelled n opens (Some m) some is =
-    rw (around (label_pieces m.labels) (side_pieces m.side) word.Close)
-    (MatchingOf.given (matching_word m.on) m.on m.labels m.side (words_of (label_pieces m.labels))
+    rw (around (inner_labels m.labels) (side_pieces m.side) word.Close)
+    (MatchingOf.given (matching_word m.on) m.on m.labels m.side (words_of (inner_labels m.labels))
     (words_of (side_pieces m.side))
     (matching_is m.on) some (labels_spelled m.labels is.0) (side_spelled n opens m.side some is.1))
 
 grouping_is : (by : Bool) → grouping_of (grouping_word by) ≡ Some by
-unfolding grouping_of
+unfolding grouping_of grouping_word
 grouping_is true = refl
 grouping_is false = refl
 
 -- the words of `by (a, b)`
 abbrev pub grouping_words : Grouping → List Word
 grouping_words g = grouping_word
-    g.by ∷ word.Open ∷ (words_of (label_pieces g.labels) ++ (word.Close ∷ []))
+    g.by ∷ word.Open ∷ (words_of (inner_labels g.labels) ++ (word.Close ∷ []))
 
 pub grouping_spelled : (n : ℕ) (g : Grouping) → 0 < n → AreLabels g.labels
     → GroupingOf n g (grouping_words g)
 grouping_spelled n g some are =
-    GroupingOf.given (grouping_word g.by) g.by g.labels (words_of (label_pieces g.labels))
+    GroupingOf.given (grouping_word g.by) g.by g.labels (words_of (inner_labels g.labels))
     (grouping_is g.by) some (labels_spelled g.labels are)
+
+pub words-grouping : (g : Grouping) (ps : List Piece)
+    → words_of (grouping_pieces (Some g) ++ ps) ≡ grouping_words g ++ words_of ps
+words-grouping g ps = simp (words-append, append_assoc)
 
 match_is : (op : MatchOp) → match_of (match_word op) ≡ Some op
 unfolding match_of
@@ -95,13 +106,17 @@ matcher_spelled : (m : Matcher) → IsMatcher m → MatcherOf m (words_of (match
 matcher_spelled m is =
     MatcherOf.matcher (keyword_of m.name) m.name m.value (match_word m.op) m.op is (match_is m.op)
 
+-- `a="b",c=~"d"`
+abbrev inner_matchers : List Matcher → List Piece
+inner_matchers ms = join_by matcher_pieces (written word.Comma ∷ []) ms
+
 matchers_spelled : (ms : List Matcher) → Each IsMatcher ms
-    → Matchers ms (words_of (matchers_pieces ms))
+    → Matchers ms (words_of (inner_matchers ms))
 matchers_spelled [] are = Matchers.none
 matchers_spelled (m ∷ []) are =
     Matchers.last m (words_of (matcher_pieces m)) (matcher_spelled m are.0)
 matchers_spelled (m ∷ n ∷ ms) are =
-    Matchers.more m (n ∷ ms) (words_of (matcher_pieces m)) (words_of (matchers_pieces (n ∷ ms)))
+    Matchers.more m (n ∷ ms) (words_of (matcher_pieces m)) (words_of (inner_matchers (n ∷ ms)))
     (matcher_spelled m are.0)
     (matchers_spelled (n ∷ ms) are.1)
 
@@ -109,12 +124,12 @@ head_spelled : (W : Word → Type 0) (name : Option (List ℕ)) (ms : List Match
     → Each IsMatcher ms
     → Head name ms (words_of (head_pieces name ms))
 head_spelled W None ms is are =
-    rw (before_last (matchers_pieces ms) word.CloseBrace)
-    (Head.nameless ms (words_of (matchers_pieces ms)) (matchers_spelled ms are))
+    rw (before_last (inner_matchers ms) word.CloseBrace)
+    (Head.nameless ms (words_of (inner_matchers ms)) (matchers_spelled ms are))
 head_spelled W (Some name) [] is are = Head.bare name
 head_spelled W (Some name) (m ∷ ms) is are =
-    rw (before_last (matchers_pieces (m ∷ ms)) word.CloseBrace)
-    (Head.named name (m ∷ ms) (words_of (matchers_pieces (m ∷ ms))) is.1
+    rw (before_last (inner_matchers (m ∷ ms)) word.CloseBrace)
+    (Head.named name (m ∷ ms) (words_of (inner_matchers (m ∷ ms))) is.1
     (matchers_spelled (m ∷ ms) are))
 
 range_spelled : (W : Word → Type 0) (range : Option Span) → IsRange W range
@@ -136,7 +151,7 @@ pub selector_spelled : (W : Word → Type 0) (name : Option (List ℕ)) (ms : Li
     (range offset : Option Span)
     → IsNamed W name ms → Each IsMatcher ms → IsRange W range
     → SelectorOf (expr.Select name ms range offset)
-    (words_of (head_pieces name ms ++ (range_pieces range ++ offset_pieces offset)))
+    (words_of (selector_pieces name ms range offset))
 selector_spelled W name ms range offset named are is =
     rw (words-append (head_pieces name ms) (range_pieces range ++ offset_pieces offset))
     (rw (words-append (range_pieces range) (offset_pieces offset))

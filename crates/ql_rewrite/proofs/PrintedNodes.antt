@@ -1,10 +1,12 @@
 -- The words of a printed tree spell it, and no more brackets are open in them than the tree is deep:
 -- a bracket opens round an operand, or round what a call or an aggregate is of, or round labels beside
 -- those.
-use Rattle.std.proofs.Common.{◌≡◌, ℕ, zero, suc, ◌+◌, ◌-◌, ◌<◌, ◌≤◌, inl, inr, Bool, true, false, List, [], ◌∷◌, ◌++◌, Option, Some, None, map, nat_lt, codes, if◌then◌else◌, refl, ap, sym, subst, subst₂, ◌∙◌, zero-le, append-nil, ltb-false, eq-or-lt_of_le, le_of_suc-le-suc, arith}
+use Rattle.std.proofs.Common.{◌≡◌, ℕ, zero, suc, ◌+◌, ◌-◌, ◌<◌, ◌≤◌, inl, inr, Bool, true, false, List, [], ◌∷◌, ◌++◌, Option, Some, None, map, nat_lt, codes, if◌then◌else◌, refl, ap, sym, subst, subst₂, ◌∙◌, zero-le, append-nil, append_assoc, ltb-false, eq-or-lt_of_le, le_of_suc-le-suc, arith}
 use Rattle.std.specs.List.{AllByRecursion as Each}
 use Rattle.ql_tree.specs.Children.{children_of, greatest, depth_of}
 use Rattle.ql_tree.specs.Operators.{operator_of, level_of, is_comparison, sign_of, aggregate_of}
+use Rattle.ql_tree.specs.Pieces.{Piece, written}
+use Rattle.ql_tree.specs.Printed.{Leveled, operator_word, aggregate_word, sign_word, comma, matching_pieces, bool_pieces, operator_pieces, grouping_pieces, placed, listed_pieces, pieces_step, pieces_of}
 use Rattle.ql_tree.specs.Spells.{Spelling, begins_open, BoolOf, Chain, Signed, Arguments, Operands, Atom, levels, Within}
 use Rattle.ql_tree.specs.declared.tree.AggregateOp.{AggregateOp}
 use Rattle.ql_tree.specs.declared.tree.ArithOp.TheVariants as arithmetic
@@ -21,15 +23,15 @@ use Rattle.ql_tree.specs.declared.word.Word.{Word}
 use Rattle.ql_tree.specs.declared.word.Word.TheVariants as word
 use Rattle.ql_tree.proofs.NodeLemmas.{depth_out, out-Number, out-Str, out-Select, out-Unary, out-Binary, out-Call, out-Aggregate}
 use Rattle.ql_tree.proofs.Inherited.{Inherited, IsMatching, IsGrouping}
-use Rattle.ql_rewrite.proofs.Pieces.{Piece, Printed, close, spaced, words_of, behind_gap, operator_word, aggregate_word, sign_word, label_pieces, matching_pieces, bool_pieces, placed, more_listed, listed_pieces, aggregate_pieces, pieces_step, pieces_of}
-use Rattle.ql_rewrite.proofs.PrintedClauses.{words-append, before_last, matching_spelled, grouping_words, grouping_spelled, selector_spelled}
+use Rattle.ql_rewrite.proofs.Written.{words_of}
+use Rattle.ql_rewrite.proofs.PrintedClauses.{words-append, before_last, matching_spelled, grouping_words, words-grouping, grouping_spelled, selector_spelled}
 
 -- what is spelled at a level where so many brackets may be opened
 abbrev pub AtLevel : ℕ → ℕ → Spelling
 AtLevel m k = levels m k (Atom m (Within m))
 
 -- the words spell the tree at their level, wherever as many brackets may be opened as are asked for
-abbrev pub IsSpelledBy : Expr → Printed → ℕ → Type 0
+abbrev pub IsSpelledBy : Expr → Leveled → ℕ → Type 0
 IsSpelledBy e p brackets = (p.0 ≤ 5) × ((m : ℕ) → brackets ≤ m → AtLevel m p.0 e (words_of p.1))
 
 abbrev pub IsPrinted : Expr → Type 0
@@ -48,7 +50,7 @@ unfolding Within
 within_more n e ts is = is
 
 -- the words between brackets
-pub inside : (m d : ℕ) (e : Expr) (p : Printed) → IsSpelledBy e p d → d < m
+pub inside : (m d : ℕ) (e : Expr) (p : Leveled) → IsSpelledBy e p d → d < m
     → Within m e (words_of p.1)
 inside zero d e p is less = absurd (omega arith)
 inside (suc n) d e p is less =
@@ -56,10 +58,10 @@ inside (suc n) d e p is less =
     (rise_to n p.0 5 e (words_of p.1) is.0 (is.1 n (le_of_suc-le-suc less)))
 
 -- an operand at a place where the level may be k at most
-placed_by : (m d k : ℕ) (e : Expr) (p : Printed) (looser : Bool) → IsSpelledBy e p d → d < m
+placed_by : (m d k : ℕ) (e : Expr) (p : Leveled) (looser : Bool) → IsSpelledBy e p d → d < m
     → nat_lt k p.0 ≡ looser
     → AtLevel m k e (words_of
-    (if looser then close word.Open ∷ (p.1 ++ (close word.Close ∷ [])) else p.1))
+    (if looser then written word.Open ∷ (p.1 ++ (written word.Close ∷ [])) else p.1))
 placed_by m d k e p true is less test =
     rw (before_last p.1 word.Close)
     (rise_to m 0 k e (word.Open ∷ (words_of p.1 ++ (word.Close ∷ []))) zero-le
@@ -122,22 +124,10 @@ bool_spelled : (comparison boolean : Bool) → (boolean ≡ true → comparison 
 bool_spelled comparison true may = BoolOf.given (codes "bool") (may refl)
 bool_spelled comparison false may = BoolOf.none
 
-words-behind_gap : (ps qs : List Piece) → words_of (behind_gap ps ++ qs) ≡ words_of (ps ++ qs)
-words-behind_gap [] qs = refl
-words-behind_gap (p ∷ ps) qs = refl
-
-words-gap : (ps : List Piece) → words_of (behind_gap ps) ≡ words_of ps
-words-gap [] = refl
-words-gap (p ∷ ps) = refl
-
-operator_words : (ls bs ms rs : List Piece) (w : Word)
-    → words_of (ls ++ (spaced w ∷ (bs ++ (ms ++ behind_gap rs))))
-    ≡ words_of ls ++ (w ∷ (words_of bs ++ (words_of ms ++ words_of rs)))
-operator_words ls bs ms rs w =
-    words-append ls (spaced w ∷ (bs ++ (ms ++ behind_gap rs)))
-    ∙ ap (λ ts. words_of ls ++ (w ∷ ts)) (words-append bs (ms ++ behind_gap rs)
-    ∙ ap (λ ts. words_of bs ++ ts)
-    (words-append ms (behind_gap rs) ∙ ap (λ ts. words_of ms ++ ts) (words-gap rs)))
+words-operator : (ls rs : List Piece) (op : BinaryOp) (boolean : Bool) (m : Option Matching)
+    → words_of (ls ++ (operator_pieces op boolean m ++ rs))
+    ≡ words_of ls ++ (operator_word op ∷ (words_of (bool_pieces boolean) ++ (words_of (matching_pieces m) ++ words_of rs)))
+words-operator ls rs op boolean m = simp (words-append, append_assoc)
 
 operator_spelled : (m : ℕ) (op : BinaryOp) (boolean : Bool) (matching : Option Matching) (l r : Expr)
     → (boolean ≡ true → is_comparison op ≡ true) → IsMatching matching → IsPrinted l → IsPrinted r
@@ -148,9 +138,7 @@ operator_spelled : (m : ℕ) (op : BinaryOp) (boolean : Bool) (matching : Option
 operator_spelled m op boolean matching l r may is left right le =
     let level : level_of op ≡ suc (level_of op - 1) = (operator_level op).0 in
     let us : List Word = words_of (placed (level_of op - 1) (pieces_of r)) in
-    rw (operator_words (placed (level_of op) (pieces_of l)) (bool_pieces boolean)
-    (matching_pieces matching)
-    (placed (level_of op - 1) (pieces_of r)) (operator_word op))
+    rw (words-operator (placed (level_of op) (pieces_of l)) (placed (level_of op - 1) (pieces_of r)) op boolean matching)
     (subst (λ k. AtLevel m k (expr.Binary op boolean matching (l ∷ []) (r ∷ []))
     (words_of (placed (level_of op) (pieces_of l))
     ++ (operator_word op ∷ (words_of (bool_pieces boolean)
@@ -165,6 +153,10 @@ operator_spelled m op boolean matching l r may is left right le =
     (matching_spelled m (begins_open us) matching (omega arith) is)
     (placed_spelled m (level_of op - 1) r right (omega arith))))
 
+words-listed : (p q : Leveled) (ps : List Leveled)
+    → words_of (listed_pieces (p ∷ q ∷ ps)) ≡ words_of p.1 ++ (word.Comma ∷ words_of (listed_pieces (q ∷ ps)))
+words-listed p q ps = words-append p.1 (comma ++ listed_pieces (q ∷ ps))
+
 arguments_spelled : (m : ℕ) (e : Expr) (es : List Expr) → Each IsPrinted (e ∷ es)
     → greatest (map depth_of (e ∷ es)) < m
     → Arguments (Within m) (e ∷ es) (words_of (listed_pieces (map pieces_of (e ∷ es))))
@@ -173,12 +165,11 @@ arguments_spelled m e [] are less =
     (Arguments.last e (words_of (pieces_of e).1)
     (inside m (depth_of e) e (pieces_of e) are.0 (omega arith)))
 arguments_spelled m e (f ∷ es) are less =
-    rw (words-append (pieces_of e).1 (more_listed (map pieces_of (f ∷ es))))
-    (rw (words-behind_gap (pieces_of f).1 (more_listed (map pieces_of es)))
+    rw (words-listed (pieces_of e) (pieces_of f) (map pieces_of es))
     (Arguments.more e (f ∷ es) (words_of (pieces_of e).1)
     (words_of (listed_pieces (map pieces_of (f ∷ es))))
     (inside m (depth_of e) e (pieces_of e) are.0 (omega arith))
-    (arguments_spelled m f es are.1 (omega arith))))
+    (arguments_spelled m f es are.1 (omega arith)))
 
 call_spelled : (m : ℕ) (function : List ℕ) (args : List Expr) → Each IsPrinted args
     → 1 + greatest (map depth_of args) ≤ m
@@ -191,21 +182,18 @@ call_spelled m function (e ∷ es) are le =
     (arguments_spelled m e es are (omega arith)))
 
 aggregate_spelled : (m : ℕ) (op : AggregateOp) (g : Option Grouping) (param : List Expr) (e : Expr)
-    (ps : List Printed) → 0 < m
-    → IsGrouping g → Operands (Within m) param e (words_of (listed_pieces ps))
-    → Atom m (Within m) (expr.Aggregate op g param (e ∷ [])) (words_of (aggregate_pieces op g ps))
+    (ps : List Piece) → 0 < m
+    → IsGrouping g → Operands (Within m) param e (words_of ps)
+    → Atom m (Within m) (expr.Aggregate op g param (e ∷ []))
+    (words_of (written (aggregate_word op) ∷ (grouping_pieces g ++ (written word.Open ∷ (ps ++ (written word.Close ∷ []))))))
 aggregate_spelled m op None param e ps some is are =
-    rw (before_last (listed_pieces ps) word.Close)
-    (Atom.aggregate (aggregate_word op) op param e (words_of (listed_pieces ps))
-    (aggregate_is op) are)
+    rw (before_last ps word.Close)
+    (Atom.aggregate (aggregate_word op) op param e (words_of ps) (aggregate_is op) are)
 aggregate_spelled m op (Some g) param e ps some is are =
-    rw (words-append (label_pieces g.labels ++ (close word.Close ∷ []))
-    (spaced word.Open ∷ (listed_pieces ps ++ (close word.Close ∷ []))))
-    (rw (before_last (label_pieces g.labels) word.Close)
-    (rw (before_last (listed_pieces ps) word.Close)
-    (Atom.grouped_before (aggregate_word op) op g param e (grouping_words g)
-    (words_of (listed_pieces ps)) (aggregate_is op)
-    (grouping_spelled m g some is) are)))
+    rw (words-grouping g (written word.Open ∷ (ps ++ (written word.Close ∷ []))))
+    (rw (before_last ps word.Close)
+    (Atom.grouped_before (aggregate_word op) op g param e (grouping_words g) (words_of ps) (aggregate_is op)
+    (grouping_spelled m g some is) are))
 
 alone_spelled : (m : ℕ) (e : Expr) → IsPrinted e → depth_of e < m
     → Operands (Within m) [] e (words_of (listed_pieces (pieces_of e ∷ [])))
@@ -216,25 +204,24 @@ alone_spelled m e is less =
 param_spelled : (m : ℕ) (p e : Expr) → IsPrinted p → IsPrinted e → depth_of p < m → depth_of e < m
     → Operands (Within m) (p ∷ []) e (words_of (listed_pieces (pieces_of p ∷ pieces_of e ∷ [])))
 param_spelled m p e is is_e less less_e =
-    rw (words-append (pieces_of p).1 (close word.Comma ∷ (behind_gap (pieces_of e).1 ++ [])))
-    (rw (words-behind_gap (pieces_of e).1 [])
+    rw (words-listed (pieces_of p) (pieces_of e) [])
     (rw (append-nil (pieces_of e).1)
     (Operands.param p e (words_of (pieces_of p).1) (words_of (pieces_of e).1)
     (inside m (depth_of p) p (pieces_of p) is less)
-    (inside m (depth_of e) e (pieces_of e) is_e less_e))))
+    (inside m (depth_of e) e (pieces_of e) is_e less_e)))
 
 -- the words of a tree by the node at its root
 pub pieces_at : (e : Expr) (node : Expr-F Expr) → out-Expr e ≡ node
-    → pieces_of e ≡ pieces_step (map-Expr Expr Printed pieces_of node)
+    → pieces_of e ≡ pieces_step (map-Expr Expr Leveled pieces_of node)
 pieces_at e node is =
-    fold_out-Expr Printed pieces_step e ∙ ap (λ n. pieces_step (map-Expr Expr Printed pieces_of n)) is
+    fold_out-Expr Leveled pieces_step e ∙ ap (λ n. pieces_step (map-Expr Expr Leveled pieces_of n)) is
 
 pub depth_at : (e : Expr) (node : Expr-F Expr) → out-Expr e ≡ node
     → depth_of e ≡ 1 + greatest (map depth_of (children_of node))
 depth_at e node is = depth_out e ∙ ap (λ n. 1 + greatest (map depth_of (children_of n))) is
 
 printed_by : (e : Expr) (node : Expr-F Expr) → out-Expr e ≡ node
-    → IsSpelledBy e (pieces_step (map-Expr Expr Printed pieces_of node))
+    → IsSpelledBy e (pieces_step (map-Expr Expr Leveled pieces_of node))
     (1 + greatest (map depth_of (children_of node))) → IsPrinted e
 printed_by e node is spelled =
     subst₂ (IsSpelledBy e) (sym (pieces_at e node is)) (sym (depth_at e node is)) spelled
@@ -273,7 +260,7 @@ printed_spells W = record {
   aggregate = λ op g e is of. printed_by (expr.Aggregate op g [] (e ∷ []))
       (Expr-F.Aggregate op g [] (e ∷ [])) (out-Aggregate op g [] (e ∷ [])) (
         zero-le,
-        λ m le. Signed.atom _ _ (aggregate_spelled m op g [] e (pieces_of e ∷ []) (omega arith) is
+        λ m le. Signed.atom _ _ (aggregate_spelled m op g [] e (listed_pieces (pieces_of e ∷ [])) (omega arith) is
             (alone_spelled m e of (omega arith))),
       );
   aggregate_param = λ op g p e is first of.
@@ -281,7 +268,7 @@ printed_spells W = record {
       (out-Aggregate op g (p ∷ []) (e ∷ [])) (
         zero-le,
         λ m le. Signed.atom _ _
-            (aggregate_spelled m op g (p ∷ []) e (pieces_of p ∷ pieces_of e ∷ []) (omega arith) is
+            (aggregate_spelled m op g (p ∷ []) e (listed_pieces (pieces_of p ∷ pieces_of e ∷ [])) (omega arith) is
             (param_spelled m p e first of (omega arith) (omega arith))),
       );
 }

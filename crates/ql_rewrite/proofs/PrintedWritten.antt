@@ -1,6 +1,6 @@
 -- The words of a printed tree are ones that a text can write.
 use Rattle.std.proofs.Common.{◌≡◌, ℕ, zero, suc, ◌-◌, ◌≤◌, ℤ, pos, negsuc, neg_ℤ, nat_abs, inl, inr, Bool, true, false, List, [], ◌∷◌, ◌++◌, Option, Some, None, map, nat_lt, if◌then◌else◌, refl, sym, subst, zero-le, le-ltb, arith}
-use Rattle.std.specs.List.{AllByRecursion as Each, list_all}
+use Rattle.std.specs.List.{AllByRecursion as Each, list_all, flat_map, join_by}
 use Rattle.op_base.specs.Names.{is_label_name, is_label_byte, is_metric_byte}
 use Rattle.op_base.specs.Spans.{longest}
 use Rattle.op_base.specs.declared.matcher.Matcher.{Matcher}
@@ -8,6 +8,8 @@ use Rattle.op_base.specs.declared.matcher.MatchOp.{MatchOp}
 use Rattle.op_base.specs.declared.matcher.MatchOp.TheVariants as match
 use Rattle.op_base.specs.declared.span.Span.{Span}
 use Rattle.ql_tree.specs.Operators.{level_of}
+use Rattle.ql_tree.specs.Pieces.{Piece, blank, written}
+use Rattle.ql_tree.specs.Printed.{Leveled, label_word, operator_word, aggregate_word, match_word, sign_word, matching_word, side_word, grouping_word, comma, label_pieces, labels_pieces, matcher_pieces, braces_pieces, head_pieces, range_pieces, distance_pieces, offset_pieces, side_pieces, matching_pieces, bool_pieces, operator_pieces, grouping_pieces, placed, listed_pieces, pieces_step, pieces_of}
 use Rattle.ql_tree.specs.Reserved.{is_reserved}
 use Rattle.ql_tree.specs.Words.{keyword_of, span_of}
 use Rattle.ql_tree.specs.declared.tree.AggregateOp.{AggregateOp}
@@ -26,9 +28,8 @@ use Rattle.ql_tree.specs.declared.tree.Side.{Side}
 use Rattle.ql_tree.specs.declared.word.Word.TheVariants as word
 use Rattle.ql_tree.proofs.NodeLemmas.{out-Number, out-Str, out-Select, out-Unary, out-Binary, out-Call, out-Aggregate}
 use Rattle.ql_tree.proofs.Inherited.{Inherited, AreLabels, IsSide, IsMatching, IsGrouping, IsMatcher, IsNamed, IsRange, IsOffset}
-use Rattle.ql_rewrite.proofs.Pieces.{Piece, Printed, close, spaced, words_of, behind_gap, label_word, operator_word, aggregate_word, match_word, sign_word, matching_word, side_word, grouping_word, more_labels, label_pieces, labels_pieces, matcher_pieces, more_matchers, matchers_pieces, braces_pieces, head_pieces, range_pieces, distance_pieces, offset_pieces, side_pieces, matching_pieces, bool_pieces, placed, more_listed, listed_pieces, aggregate_pieces, pieces_step, pieces_of}
 use Rattle.ql_rewrite.proofs.PrintedNodes.{pieces_at}
-use Rattle.ql_rewrite.proofs.Written.{IsWritten, AreWritten}
+use Rattle.ql_rewrite.proofs.Written.{IsWritten, AreWritten, words_of}
 use Rattle.ql_rewrite.proofs.WrittenTokens.{not_negative}
 
 -- a text can write all words of the pieces
@@ -37,7 +38,25 @@ HasWritten ps = AreWritten (words_of ps)
 
 both : (ps qs : List Piece) → HasWritten ps → HasWritten qs → HasWritten (ps ++ qs)
 both [] qs all rest = rest
-both (p ∷ ps) qs all rest = (all.0, both ps qs all.1 rest)
+both (Piece.blank ∷ ps) qs all rest = both ps qs all rest
+both (Piece.written w ∷ ps) qs all rest = (all.0, both ps qs all.1 rest)
+
+-- a list with what stands between each two
+module _ {X : Type 0} (f : X → List Piece) (between : List Piece) (is : HasWritten between) where
+  more_written : (xs : List X) → Each (λ x. HasWritten (f x)) xs
+      → HasWritten (flat_map (λ x. between ++ f x) xs)
+  more_written [] all = tt
+  more_written (x ∷ xs) all =
+      both (between ++ f x) (flat_map (λ y. between ++ f y) xs) (both between (f x) is all.0) (more_written xs all.1)
+
+  joined_written : (xs : List X) → Each (λ x. HasWritten (f x)) xs → HasWritten (join_by f between xs)
+  joined_written [] all = tt
+  joined_written (x ∷ xs) all = both (f x) (flat_map (λ y. between ++ f y) xs) all.0 (more_written xs all.1)
+
+-- what stands between brackets
+bracketed_written : (ps : List Piece) → HasWritten ps
+    → HasWritten (written word.Open ∷ (ps ++ (written word.Close ∷ [])))
+bracketed_written ps all = (tt, both ps (written word.Close ∷ []) all (tt, tt))
 
 label_bytes : (text : List ℕ) → list_all is_label_byte text ≡ true
     → list_all is_metric_byte text ≡ true
@@ -48,25 +67,17 @@ label_written : (label : List ℕ) → is_label_name label ≡ true → IsWritte
 label_written [] is = cc
 label_written (b ∷ text) is = let bytes = label_bytes (b ∷ text) (grind arith) in (grind arith, refl)
 
-more_labels_written : (labels : List (List ℕ)) → AreLabels labels → HasWritten (more_labels labels)
-more_labels_written [] are = tt
-more_labels_written (label ∷ labels) are =
-    (tt, (label_written label are.0, more_labels_written labels are.1))
-
-label_pieces_written : (labels : List (List ℕ)) → AreLabels labels → HasWritten (label_pieces labels)
-label_pieces_written [] are = tt
-label_pieces_written (label ∷ labels) are =
-    (label_written label are.0, more_labels_written labels are.1)
-
 labels_written : (labels : List (List ℕ)) → AreLabels labels → HasWritten (labels_pieces labels)
-labels_written labels are = (
-  tt,
-  both (label_pieces labels) (close word.Close ∷ []) (label_pieces_written labels are)
-      (tt, tt),
-)
+labels_written labels are =
+    bracketed_written (join_by label_pieces comma labels)
+    (joined_written label_pieces comma (tt, tt) labels (each labels are))
+  where
+    each : (texts : List (List ℕ)) → AreLabels texts → Each (λ label. HasWritten (label_pieces label)) texts
+    each [] all = tt
+    each (label ∷ texts) all = ((label_written label all.0, tt), each texts all.1)
 
 side_word_written : (left : Bool) → IsWritten (side_word left)
-unfolding keyword_of is_reserved
+unfolding keyword_of is_reserved side_word
 side_word_written true = (refl, refl)
 side_word_written false = (refl, refl)
 
@@ -75,7 +86,7 @@ side_written None is = tt
 side_written (Some side) is = (side_word_written side.left, labels_written side.include is)
 
 matching_word_written : (on : Bool) → IsWritten (matching_word on)
-unfolding keyword_of is_reserved
+unfolding keyword_of is_reserved matching_word
 matching_word_written true = (refl, refl)
 matching_word_written false = (refl, refl)
 
@@ -88,7 +99,7 @@ matching_written (Some m) is = (
 )
 
 grouping_word_written : (by : Bool) → IsWritten (grouping_word by)
-unfolding keyword_of is_reserved
+unfolding keyword_of is_reserved grouping_word
 grouping_word_written true = (refl, refl)
 grouping_word_written false = (refl, refl)
 
@@ -135,23 +146,17 @@ match_written match.Nr = tt
 matcher_written : (m : Matcher) → IsMatcher m → HasWritten (matcher_pieces m)
 matcher_written m is = (label_written m.name is, (match_written m.op, (tt, tt)))
 
-more_matchers_written : (ms : List Matcher) → Each IsMatcher ms → HasWritten (more_matchers ms)
-more_matchers_written [] are = tt
-more_matchers_written (m ∷ ms) are = (
-  tt,
-  both (matcher_pieces m) (more_matchers ms) (matcher_written m are.0)
-      (more_matchers_written ms are.1),
-)
-
-matchers_written : (ms : List Matcher) → Each IsMatcher ms → HasWritten (matchers_pieces ms)
-matchers_written [] are = tt
-matchers_written (m ∷ ms) are =
-    both (matcher_pieces m) (more_matchers ms) (matcher_written m are.0)
-    (more_matchers_written ms are.1)
-
 braces_written : (ms : List Matcher) → Each IsMatcher ms → HasWritten (braces_pieces ms)
 braces_written ms are =
-    (tt, both (matchers_pieces ms) (close word.CloseBrace ∷ []) (matchers_written ms are) (tt, tt))
+    let between : List Piece = written word.Comma ∷ [] in (
+      tt,
+      both (join_by matcher_pieces between ms) (written word.CloseBrace ∷ [])
+          (joined_written matcher_pieces between (tt, tt) ms (each ms are)) (tt, tt),
+    )
+  where
+    each : (all : List Matcher) → Each IsMatcher all → Each (λ m. HasWritten (matcher_pieces m)) all
+    each [] are = tt
+    each (m ∷ all) are = (matcher_written m are.0, each all are.1)
 
 head_written : (name : Option (List ℕ)) (ms : List Matcher) → IsNamed IsWritten name ms
     → Each IsMatcher ms → HasWritten (head_pieces name ms)
@@ -189,56 +194,55 @@ sign_written : (minus : Bool) → IsWritten (sign_word minus)
 sign_written true = tt
 sign_written false = tt
 
-placed_written : (k : ℕ) (p : Printed) → HasWritten p.1 → HasWritten (placed k p)
+placed_written : (k : ℕ) (p : Leveled) → HasWritten p.1 → HasWritten (placed k p)
 placed_written k p all =
     elim (nat_lt k p.0) as
     (λ looser. HasWritten
-    (if looser then close word.Open ∷ (p.1 ++ (close word.Close ∷ [])) else p.1)) [
-      | true ↦ (tt, both p.1 (close word.Close ∷ []) all (tt, tt))
+    (if looser then written word.Open ∷ (p.1 ++ (written word.Close ∷ [])) else p.1)) [
+      | true ↦ bracketed_written p.1 all
       | false ↦ all
     ]
 
-gap_written : (ps : List Piece) → HasWritten ps → HasWritten (behind_gap ps)
-gap_written [] all = tt
-gap_written (p ∷ ps) all = all
+operator_pieces_written : (op : BinaryOp) (boolean : Bool) (m : Option Matching) → IsMatching m
+    → HasWritten (operator_pieces op boolean m)
+operator_pieces_written op boolean m is = (
+  operator_written op,
+  both (bool_pieces boolean) (matching_pieces m ++ (blank ∷ [])) (bool_written boolean)
+      (both (matching_pieces m) (blank ∷ []) (matching_written m is) tt),
+)
+
+grouping_written : (g : Option Grouping) → IsGrouping g → HasWritten (grouping_pieces g)
+grouping_written None is = tt
+grouping_written (Some g) is =
+    (grouping_word_written g.by, both (labels_pieces g.labels) (blank ∷ []) (labels_written g.labels is) tt)
 
 abbrev pub IsPrintedWritten : Expr → Type 0
 IsPrintedWritten e = AreWritten (words_of (pieces_of e).1)
 
-more_listed_written : (es : List Expr) → Each IsPrintedWritten es
-    → HasWritten (more_listed (map pieces_of es))
-more_listed_written [] all = tt
-more_listed_written (e ∷ es) all = (
-  tt,
-  both (behind_gap (pieces_of e).1) (more_listed (map pieces_of es))
-      (gap_written (pieces_of e).1 all.0) (more_listed_written es all.1),
-)
-
 listed_written : (es : List Expr) → Each IsPrintedWritten es
     → HasWritten (listed_pieces (map pieces_of es))
-listed_written [] all = tt
-listed_written (e ∷ es) all =
-    both (pieces_of e).1 (more_listed (map pieces_of es)) all.0 (more_listed_written es all.1)
+listed_written es all =
+    joined_written (λ (p : Leveled). p.1) comma (tt, tt) (map pieces_of es) (each es all)
+  where
+    each : (trees : List Expr) → Each IsPrintedWritten trees
+        → Each (λ (p : Leveled). HasWritten p.1) (map pieces_of trees)
+    each [] are = tt
+    each (e ∷ trees) are = (are.0, each trees are.1)
 
-aggregate_written : (op : AggregateOp) (g : Option Grouping) (ps : List Printed) → IsGrouping g
-    → HasWritten (listed_pieces ps)
-    → HasWritten (aggregate_pieces op g ps)
-aggregate_written op None ps is all =
-    (aggregate_word_written op, (tt, both (listed_pieces ps) (close word.Close ∷ []) all (tt, tt)))
-aggregate_written op (Some g) ps is all = (
+aggregate_written : (op : AggregateOp) (g : Option Grouping) (ps : List Piece) → IsGrouping g
+    → HasWritten ps
+    → HasWritten (written (aggregate_word op)
+    ∷ (grouping_pieces g ++ (written word.Open ∷ (ps ++ (written word.Close ∷ [])))))
+aggregate_written op g ps is all = (
   aggregate_word_written op,
-  (
-    grouping_word_written g.by,
-    both (labels_pieces g.labels) (spaced word.Open ∷ (listed_pieces ps ++ (close word.Close ∷ [])))
-        (labels_written g.labels is)
-        (tt, both (listed_pieces ps) (close word.Close ∷ []) all (tt, tt)),
-  ),
+  both (grouping_pieces g) (written word.Open ∷ (ps ++ (written word.Close ∷ []))) (grouping_written g is)
+      (bracketed_written ps all),
 )
 
 written_by : (e : Expr) (node : Expr-F Expr) → out-Expr e ≡ node
-    → HasWritten (pieces_step (map-Expr Expr Printed pieces_of node)).1
+    → HasWritten (pieces_step (map-Expr Expr Leveled pieces_of node)).1
     → IsPrintedWritten e
-written_by e node is all = subst (λ (p : Printed). HasWritten p.1) (sym (pieces_at e node is)) all
+written_by e node is all = subst (λ (p : Leveled). HasWritten p.1) (sym (pieces_at e node is)) all
 
 -- the words of a tree that is spelled can be written
 pub printed_written : Inherited IsWritten IsPrintedWritten
@@ -262,19 +266,15 @@ printed_written = record {
   call = λ function args has are. written_by (expr.Call function args) (Expr-F.Call function args)
       (out-Call function args) (
         has,
-        (
-          tt,
-          both (listed_pieces (map pieces_of args)) (close word.Close ∷ [])
-              (listed_written args are) (tt, tt),
-        ),
+        bracketed_written (listed_pieces (map pieces_of args)) (listed_written args are),
       );
   aggregate = λ op g e is of. written_by (expr.Aggregate op g [] (e ∷ []))
       (Expr-F.Aggregate op g [] (e ∷ [])) (out-Aggregate op g [] (e ∷ []))
-      (aggregate_written op g (pieces_of e ∷ []) is (listed_written (e ∷ []) (of, tt)));
+      (aggregate_written op g (listed_pieces (pieces_of e ∷ [])) is (listed_written (e ∷ []) (of, tt)));
   aggregate_param = λ op g p e is first of.
       written_by (expr.Aggregate op g (p ∷ []) (e ∷ [])) (Expr-F.Aggregate op g (p ∷ []) (e ∷ []))
       (out-Aggregate op g (p ∷ []) (e ∷ []))
-      (aggregate_written op g (pieces_of p ∷ pieces_of e ∷ []) is
+      (aggregate_written op g (listed_pieces (pieces_of p ∷ pieces_of e ∷ [])) is
       (listed_written (p ∷ e ∷ []) (first, (of, tt))));
 }
   where
@@ -283,14 +283,8 @@ printed_written = record {
         → HasWritten (pieces_step
         (Expr-F.Binary op boolean m (pieces_of l ∷ []) (pieces_of r ∷ []))).1
     operator_both op boolean m l r is left right =
-        let right_pieces : List Piece = placed (level_of op - 1) (pieces_of r) in
-        both (placed (level_of op) (pieces_of l))
-        (spaced (operator_word op) ∷ (bool_pieces boolean
-        ++ (matching_pieces m ++ behind_gap right_pieces)))
-        (placed_written (level_of op) (pieces_of l) left) (
-          operator_written op,
-          both (bool_pieces boolean) (matching_pieces m ++ behind_gap right_pieces)
-              (bool_written boolean)
-              (both (matching_pieces m) (behind_gap right_pieces) (matching_written m is)
-              (gap_written right_pieces (placed_written (level_of op - 1) (pieces_of r) right))),
-        )
+        let rs : List Piece = placed (level_of op - 1) (pieces_of r) in
+        both (placed (level_of op) (pieces_of l)) (operator_pieces op boolean m ++ rs)
+        (placed_written (level_of op) (pieces_of l) left)
+        (both (operator_pieces op boolean m) rs (operator_pieces_written op boolean m is)
+        (placed_written (level_of op - 1) (pieces_of r) right))

@@ -4,7 +4,7 @@ use Rattle.std.specs.Option.{option_map}
 use Rattle.std.specs.List.{flat_map}
 use Rattle.std.proofs.lemmas.Bool.Decides.{nat_tests}
 use Rattle.std.proofs.lemmas.Str.{encode_ascii}
-use Rattle.ql_tree.specs.Printed.{escaped, quoted_text}
+use Rattle.ql_tree.specs.Pieces.{escaped, quoted_text}
 use Rattle.ql_tree.specs.Strings.{inside_from, piece_at, escape_at, string_value, text_found}
 use Rattle.ql_tree.specs.Tokens.{token_at}
 use Rattle.ql_tree.specs.declared.token.TokenKind.TheVariants.{Str}

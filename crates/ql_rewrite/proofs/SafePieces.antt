@@ -1,14 +1,16 @@
--- In a printed tree each two words with no space between them may stand so.
+-- In a printed tree each two words with no blank between them may stand so.
 --
--- What follows a tree, a clause or a list there begins freely: with a space, a bracket or a comma,
+-- What follows a tree, a clause or a list there begins freely: with a blank, a bracket or a comma,
 -- which may stand behind any word.
 use Rattle.std.proofs.Common.{◌≡◌, ℕ, ◌-◌, pos, Bool, true, false, List, [], ◌∷◌, ◌++◌, Option, Some, None, map, not, ◌&&◌, ◌||◌, nat_lt, int_lt, codes, if◌then◌else◌, refl, ap, sym, subst, ◌∙◌, append_assoc, append-nil, arith}
-use Rattle.std.specs.List.{AllByRecursion as Each}
+use Rattle.std.specs.List.{AllByRecursion as Each, flat_map, join_by}
 use Rattle.op_base.specs.declared.matcher.Matcher.{Matcher}
 use Rattle.op_base.specs.declared.matcher.MatchOp.{MatchOp}
 use Rattle.op_base.specs.declared.matcher.MatchOp.TheVariants as match
 use Rattle.op_base.specs.declared.span.Span.{Span}
 use Rattle.ql_tree.specs.Operators.{level_of}
+use Rattle.ql_tree.specs.Pieces.{Piece, blank, written}
+use Rattle.ql_tree.specs.Printed.{Leveled, label_word, operator_word, aggregate_word, match_word, sign_word, matching_word, side_word, grouping_word, comma, label_pieces, labels_pieces, clause_pieces, matcher_pieces, braces_pieces, head_pieces, range_pieces, length_word, distance_pieces, offset_pieces, side_pieces, matching_pieces, bool_pieces, operator_pieces, grouping_pieces, placed, listed_pieces, pieces_step, pieces_of}
 use Rattle.ql_tree.specs.declared.tree.AggregateOp.{AggregateOp}
 use Rattle.ql_tree.specs.declared.tree.BinaryOp.{BinaryOp}
 use Rattle.ql_tree.specs.declared.tree.Expr.{Expr}
@@ -24,13 +26,14 @@ use Rattle.ql_tree.specs.declared.word.Word.{Word}
 use Rattle.ql_tree.specs.declared.word.Word.TheVariants as word
 use Rattle.ql_tree.proofs.NodeLemmas.{out-Number, out-Str, out-Select, out-Unary, out-Binary, out-Call, out-Aggregate}
 use Rattle.ql_tree.proofs.Inherited.{Inherited}
-use Rattle.ql_rewrite.proofs.Pieces.{Piece, Printed, close, spaced, behind_gap, label_word, operator_word, aggregate_word, match_word, sign_word, matching_word, side_word, grouping_word, more_labels, label_pieces, labels_pieces, matcher_pieces, more_matchers, matchers_pieces, braces_pieces, head_pieces, range_pieces, length_word, distance_pieces, offset_pieces, side_pieces, matching_pieces, bool_pieces, placed, more_listed, listed_pieces, aggregate_pieces, pieces_step, pieces_of}
 use Rattle.ql_rewrite.proofs.PrintedNodes.{pieces_at}
 use Rattle.ql_rewrite.proofs.Written.{is_run, may_double, begins_equal, is_safe, is_safe_before, are_safe}
 
+-- a blank, or a word that may stand behind any other
 abbrev pub begins_free : List Piece → Bool
 begins_free [] = true
-begins_free (p ∷ pieces) = p.gap || not (is_run p.word || begins_equal p.word)
+begins_free (Piece.blank ∷ pieces) = true
+begins_free (Piece.written w ∷ pieces) = not (is_run w || begins_equal w)
 
 -- the pieces may stand behind any word, and are safe
 pub record IsFree (pieces : List Piece) : Type 0 where
@@ -45,27 +48,28 @@ free_word v w free = grind arith
 
 behind_any : (w : Word) (rest : List Piece) → begins_free rest ≡ true → is_safe_before w rest ≡ true
 behind_any w [] free = refl
-behind_any w (p ∷ rest) free = by_gap p.gap p.word free
-  where
-    by_gap : (gap : Bool) (v : Word) → (gap || not (is_run v || begins_equal v)) ≡ true
-        → (gap || is_safe w v) ≡ true
-    by_gap true v free = refl
-    by_gap false v free = free_word w v free
+behind_any w (Piece.blank ∷ rest) free = refl
+behind_any w (Piece.written v ∷ rest) free = free_word w v free
 
 -- a word before what begins freely
-before_free : (p : Piece) (rest : List Piece) → IsFree rest → are_safe (p ∷ rest) ≡ true
-before_free p rest is =
-    and_true (is_safe_before p.word rest) (are_safe rest) (behind_any p.word rest is.begins) is.safe
+before_free : (w : Word) (rest : List Piece) → IsFree rest → are_safe (written w ∷ rest) ≡ true
+before_free w rest is =
+    and_true (is_safe_before w rest) (are_safe rest) (behind_any w rest is.begins) is.safe
 
 -- a word that anything may follow
-opens : (p : Piece) (rest : List Piece) → is_run p.word ≡ false → may_double p.word ≡ false
-    → are_safe rest ≡ true → are_safe (p ∷ rest) ≡ true
-opens p rest no_run no_double safe =
-    and_true (is_safe_before p.word rest) (are_safe rest) (before_all rest) safe
+opens : (w : Word) (rest : List Piece) → is_run w ≡ false → may_double w ≡ false
+    → are_safe rest ≡ true → are_safe (written w ∷ rest) ≡ true
+opens w rest no_run no_double safe =
+    and_true (is_safe_before w rest) (are_safe rest) (before_all rest) safe
   where
-    before_all : (pieces : List Piece) → is_safe_before p.word pieces ≡ true
+    before_all : (pieces : List Piece) → is_safe_before w pieces ≡ true
     before_all [] = refl
-    before_all (q ∷ pieces) = grind arith
+    before_all (Piece.blank ∷ pieces) = refl
+    before_all (Piece.written v ∷ pieces) = grind arith
+
+-- a blank before what is safe
+behind_blank : (rest : List Piece) → are_safe rest ≡ true → IsFree (blank ∷ rest)
+behind_blank rest safe = record { begins = refl; safe = safe }
 
 -- the pieces with what may follow them
 abbrev pub IsSafeBefore : List Piece → Type 0
@@ -74,15 +78,19 @@ IsSafeBefore pieces = (rest : List Piece) → IsFree rest → are_safe (pieces +
 abbrev IsFreeBefore : List Piece → Type 0
 IsFreeBefore pieces = (rest : List Piece) → IsFree rest → IsFree (pieces ++ rest)
 
+-- pieces with a blank at their end, which anything may follow
+abbrev IsFreeBeforeAll : List Piece → Type 0
+IsFreeBeforeAll pieces = (rest : List Piece) → are_safe rest ≡ true → IsFree (pieces ++ rest)
+
 -- a comma or a closing bracket before what may follow
 free_close : (w : Word) (rest : List Piece) → not (is_run w || begins_equal w) ≡ true → IsFree rest
-    → IsFree (close w ∷ rest)
-free_close w rest free is = record { begins = free; safe = before_free (close w) rest is }
+    → IsFree (written w ∷ rest)
+free_close w rest free is = record { begins = free; safe = before_free w rest is }
 
 closed : (ps : List Piece) (w : Word) → not (is_run w || begins_equal w) ≡ true → IsSafeBefore ps
-    → IsSafeBefore (ps ++ (close w ∷ []))
+    → IsSafeBefore (ps ++ (written w ∷ []))
 closed ps w free safe rest is =
-    rw (append_assoc ps (close w ∷ []) rest) (safe (close w ∷ rest) (free_close w rest free is))
+    rw (append_assoc ps (written w ∷ []) rest) (safe (written w ∷ rest) (free_close w rest free is))
 
 both : (ps qs : List Piece) → IsSafeBefore ps → IsFreeBefore qs → IsSafeBefore (ps ++ qs)
 both ps qs first second rest is = rw (append_assoc ps qs rest) (first (qs ++ rest) (second rest is))
@@ -91,222 +99,198 @@ both_free : (ps qs : List Piece) → IsFreeBefore ps → IsFreeBefore qs → IsF
 both_free ps qs first second rest is =
     rw (append_assoc ps qs rest) (first (qs ++ rest) (second rest is))
 
-more_labels_free : (labels : List (List ℕ)) → IsFreeBefore (more_labels labels)
-more_labels_free [] rest is = is
-more_labels_free (label ∷ labels) rest is = record {
+-- with a blank at the end
+with_blank : (ps : List Piece) → IsFreeBefore ps → IsFreeBeforeAll (ps ++ (blank ∷ []))
+with_blank ps first rest safe =
+    rw (append_assoc ps (blank ∷ []) rest) (first (blank ∷ rest) (behind_blank rest safe))
+
+-- a list with commas, of which each item may stand behind a comma
+module _ {X : Type 0} (f : X → List Piece) (between : List Piece)
+    (may : (ps : List Piece) → IsSafeBefore ps → IsFreeBefore (between ++ ps)) where
+  more_free : (xs : List X) → Each (λ x. IsSafeBefore (f x)) xs
+      → IsFreeBefore (flat_map (λ x. between ++ f x) xs)
+  more_free [] all rest is = is
+  more_free (x ∷ xs) all rest is =
+      both_free (between ++ f x) (flat_map (λ y. between ++ f y) xs) (may (f x) all.0) (more_free xs all.1) rest is
+
+  joined_safe : (xs : List X) → Each (λ x. IsSafeBefore (f x)) xs → IsSafeBefore (join_by f between xs)
+  joined_safe [] all rest is = is.safe
+  joined_safe (x ∷ xs) all rest is =
+      both (f x) (flat_map (λ y. between ++ f y) xs) all.0 (more_free xs all.1) rest is
+
+each_safe : {X : Type 0} (f : X → List Piece) → ((x : X) → IsSafeBefore (f x)) → (xs : List X)
+    → Each (λ x. IsSafeBefore (f x)) xs
+each_safe f all [] = tt
+each_safe f all (x ∷ xs) = (all x, each_safe f all xs)
+
+comma_free : (ps : List Piece) → IsSafeBefore ps → IsFreeBefore (comma ++ ps)
+comma_free ps safe rest is =
+    record { begins = refl; safe = opens word.Comma (blank ∷ (ps ++ rest)) refl refl (safe rest is) }
+
+close_comma_free : (ps : List Piece) → IsSafeBefore ps → IsFreeBefore (written word.Comma ∷ ps)
+close_comma_free ps safe rest is =
+    record { begins = refl; safe = opens word.Comma (ps ++ rest) refl refl (safe rest is) }
+
+-- what stands between brackets
+bracketed_free : (ps : List Piece) → IsSafeBefore ps
+    → IsFreeBefore (written word.Open ∷ (ps ++ (written word.Close ∷ [])))
+bracketed_free ps safe rest is = record {
   begins = refl;
-  safe = before_free (spaced (label_word label)) (more_labels labels ++ rest)
-      (more_labels_free labels rest is);
+  safe = opens word.Open ((ps ++ (written word.Close ∷ [])) ++ rest) refl refl
+      (closed ps word.Close refl safe rest is);
 }
 
-label_pieces_safe : (labels : List (List ℕ)) → IsSafeBefore (label_pieces labels)
-label_pieces_safe [] rest is = is.safe
-label_pieces_safe (label ∷ labels) rest is =
-    before_free (close (label_word label)) (more_labels labels ++ rest)
-    (more_labels_free labels rest is)
-
 labels_free : (labels : List (List ℕ)) → IsFreeBefore (labels_pieces labels)
-labels_free labels rest is = record {
+labels_free labels =
+    bracketed_free (join_by label_pieces comma labels)
+    (joined_safe label_pieces comma comma_free labels
+    (each_safe label_pieces (λ label. before_free (label_word label)) labels))
+
+clause_free : (w : Word) (labels : List (List ℕ)) → IsFreeBefore (clause_pieces w labels)
+clause_free w labels rest is = record {
   begins = refl;
-  safe = opens (spaced word.Open) ((label_pieces labels ++ (close word.Close ∷ [])) ++ rest) refl refl
-      (closed (label_pieces labels) word.Close refl (label_pieces_safe labels) rest is);
+  safe = before_free w (blank ∷ (labels_pieces labels ++ rest))
+      (behind_blank (labels_pieces labels ++ rest) (labels_free labels rest is).safe);
 }
 
 side_free : (side : Option Side) → IsFreeBefore (side_pieces side)
 side_free None rest is = is
-side_free (Some side) rest is = record {
-  begins = refl;
-  safe = before_free (spaced (side_word side.left)) (labels_pieces side.include ++ rest)
-      (labels_free side.include rest is);
-}
+side_free (Some side) rest is = clause_free (side_word side.left) side.include rest is
 
 matching_free : (m : Option Matching) → IsFreeBefore (matching_pieces m)
 matching_free None rest is = is
-matching_free (Some m) rest is = record {
-  begins = refl;
-  safe = before_free (spaced (matching_word m.on))
-      ((labels_pieces m.labels ++ side_pieces m.side) ++ rest)
-      (both_free (labels_pieces m.labels) (side_pieces m.side) (labels_free m.labels)
-      (side_free m.side) rest is);
-}
+matching_free (Some m) rest is =
+    both_free (clause_pieces (matching_word m.on) m.labels) (side_pieces m.side)
+    (clause_free (matching_word m.on) m.labels) (side_free m.side) rest is
 
 bool_free : (boolean : Bool) → IsFreeBefore (bool_pieces boolean)
 bool_free true rest is =
-    record {
-      begins = refl;
-      safe = before_free (spaced (word.Name keyword.Bool (codes "bool")))
-          rest is;
-    }
+    record { begins = refl; safe = before_free (word.Name keyword.Bool (codes "bool")) rest is }
 bool_free false rest is = is
 
+operator_free : (op : BinaryOp) (boolean : Bool) (m : Option Matching)
+    → IsFreeBeforeAll (operator_pieces op boolean m)
+operator_free op boolean m rest safe =
+    let matching : List Piece = matching_pieces m ++ (blank ∷ []) in
+    record {
+      begins = refl;
+      safe = before_free (operator_word op) ((bool_pieces boolean ++ matching) ++ rest)
+          (rw (append_assoc (bool_pieces boolean) matching rest)
+          (bool_free boolean (matching ++ rest) (with_blank (matching_pieces m) (matching_free m) rest safe)));
+    }
+
+grouping_free : (g : Option Grouping) → IsFreeBefore (grouping_pieces g)
+grouping_free None rest is = is
+grouping_free (Some g) rest is =
+    with_blank (clause_pieces (grouping_word g.by) g.labels) (clause_free (grouping_word g.by) g.labels) rest is.safe
+
 matcher_safe : (m : Matcher) → IsSafeBefore (matcher_pieces m)
-matcher_safe m rest is = by_operator m.op (before_free (close (word.Quoted m.value)) rest is)
+matcher_safe m rest is = by_operator m.op (before_free (word.Quoted m.value) rest is)
   where
-    by_operator : (op : MatchOp) → are_safe (close (word.Quoted m.value) ∷ rest) ≡ true
-        → are_safe (close (label_word m.name) ∷ close (match_word op) ∷ close
+    by_operator : (op : MatchOp) → are_safe (written (word.Quoted m.value) ∷ rest) ≡ true
+        → are_safe (written (label_word m.name) ∷ written (match_word op) ∷ written
         (word.Quoted m.value) ∷ rest) ≡ true
     by_operator match.Eq safe = safe
     by_operator match.Ne safe = safe
     by_operator match.Re safe = safe
     by_operator match.Nr safe = safe
 
-more_matchers_free : (ms : List Matcher) → IsFreeBefore (more_matchers ms)
-more_matchers_free [] rest is = is
-more_matchers_free (m ∷ ms) rest is = record {
-  begins = refl;
-  safe = opens (close word.Comma) ((matcher_pieces m ++ more_matchers ms) ++ rest) refl refl
-      (both (matcher_pieces m) (more_matchers ms) (matcher_safe m) (more_matchers_free ms) rest is);
-}
-
-matchers_safe : (ms : List Matcher) → IsSafeBefore (matchers_pieces ms)
-matchers_safe [] rest is = is.safe
-matchers_safe (m ∷ ms) rest is =
-    both (matcher_pieces m) (more_matchers ms) (matcher_safe m) (more_matchers_free ms) rest is
-
 braces_free : (ms : List Matcher) → IsFreeBefore (braces_pieces ms)
-braces_free ms rest is = record {
-  begins = refl;
-  safe = opens (close word.OpenBrace) ((matchers_pieces ms ++ (close word.CloseBrace ∷ [])) ++ rest)
-      refl refl
-      (closed (matchers_pieces ms) word.CloseBrace refl (matchers_safe ms) rest is);
-}
+braces_free ms rest is =
+    let between : List Piece = written word.Comma ∷ [] in
+    let inner : List Piece = join_by matcher_pieces between ms in
+    let safe : IsSafeBefore inner =
+    joined_safe matcher_pieces between close_comma_free ms (each_safe matcher_pieces matcher_safe ms) in
+    record {
+      begins = refl;
+      safe = opens word.OpenBrace ((inner ++ (written word.CloseBrace ∷ [])) ++ rest) refl refl
+          (closed inner word.CloseBrace refl safe rest is);
+    }
 
 head_safe : (name : Option (List ℕ)) (ms : List Matcher) → IsSafeBefore (head_pieces name ms)
 head_safe None ms rest is = (braces_free ms rest is).safe
-head_safe (Some name) [] rest is = before_free (close (word.Name keyword.Plain name)) rest is
+head_safe (Some name) [] rest is = before_free (word.Name keyword.Plain name) rest is
 head_safe (Some name) (m ∷ ms) rest is =
-    before_free (close (word.Name keyword.Plain name)) (braces_pieces (m ∷ ms) ++ rest)
+    before_free (word.Name keyword.Plain name) (braces_pieces (m ∷ ms) ++ rest)
     (braces_free (m ∷ ms) rest is)
 
 range_free : (range : Option Span) → IsFreeBefore (range_pieces range)
 range_free None rest is = is
-range_free (Some span) rest is = record {
-  begins = refl;
-  safe = before_free (close word.CloseSquare) rest is;
-}
+range_free (Some span) rest is = record { begins = refl; safe = before_free word.CloseSquare rest is }
 
-distance_free : (span : Span) → IsFreeBefore (distance_pieces span)
-distance_free span rest is =
-    by_sign (int_lt span.0 (pos 0)) (before_free (close (length_word span)) rest is)
+distance_safe : (span : Span) → IsSafeBefore (distance_pieces span)
+distance_safe span rest is =
+    by_sign (int_lt span.0 (pos 0)) (before_free (length_word span) rest is)
   where
-    by_sign : (behind : Bool) → are_safe (close (length_word span) ∷ rest) ≡ true
-        → IsFree ((if behind then spaced word.Minus ∷ close (length_word span) ∷ [] else spaced
-        (length_word span) ∷ []) ++ rest)
-    by_sign true safe = record { begins = refl; safe = safe }
-    by_sign false safe = record { begins = refl; safe = safe }
+    by_sign : (behind : Bool) → are_safe (written (length_word span) ∷ rest) ≡ true
+        → are_safe ((if behind then written word.Minus ∷ written (length_word span) ∷ [] else written
+        (length_word span) ∷ []) ++ rest) ≡ true
+    by_sign true safe = safe
+    by_sign false safe = safe
 
 offset_free : (offset : Option Span) → IsFreeBefore (offset_pieces offset)
 offset_free None rest is = is
 offset_free (Some span) rest is = record {
   begins = refl;
-  safe = before_free (spaced (word.Name keyword.Offset (codes "offset")))
-      (distance_pieces span ++ rest) (distance_free span rest is);
+  safe = before_free (word.Name keyword.Offset (codes "offset")) (blank ∷ (distance_pieces span ++ rest))
+      (behind_blank (distance_pieces span ++ rest) (distance_safe span rest is));
 }
 
-bracketed_safe : (ps : List Piece) → IsSafeBefore ps
-    → IsSafeBefore (close word.Open ∷ (ps ++ (close word.Close ∷ [])))
-bracketed_safe ps safe rest is =
-    opens (close word.Open) ((ps ++ (close word.Close ∷ [])) ++ rest) refl refl
-    (closed ps word.Close refl safe rest is)
-
-placed_safe : (k : ℕ) (p : Printed) → IsSafeBefore p.1 → IsSafeBefore (placed k p)
+placed_safe : (k : ℕ) (p : Leveled) → IsSafeBefore p.1 → IsSafeBefore (placed k p)
 placed_safe k p safe =
     elim (nat_lt k p.0) as
     (λ looser. IsSafeBefore
-    (if looser then close word.Open ∷ (p.1 ++ (close word.Close ∷ [])) else p.1)) [
-      | true ↦ bracketed_safe p.1 safe
+    (if looser then written word.Open ∷ (p.1 ++ (written word.Close ∷ [])) else p.1)) [
+      | true ↦ λ rest is. (bracketed_free p.1 safe rest is).safe
       | false ↦ safe
     ]
-
-gap_free : (ps : List Piece) → IsSafeBefore ps → IsFreeBefore (behind_gap ps)
-gap_free [] safe rest is = is
-gap_free (p ∷ ps) safe rest is = record { begins = refl; safe = safe rest is }
 
 abbrev pub IsSafePrinted : Expr → Type 0
 IsSafePrinted e = IsSafeBefore (pieces_of e).1
 
-more_listed_free : (es : List Expr) → Each IsSafePrinted es
-    → IsFreeBefore (more_listed (map pieces_of es))
-more_listed_free [] all rest is = is
-more_listed_free (e ∷ es) all rest is = record {
-  begins = refl;
-  safe = opens (close word.Comma)
-      ((behind_gap (pieces_of e).1 ++ more_listed (map pieces_of es)) ++ rest) refl refl
-      (both_free (behind_gap (pieces_of e).1) (more_listed (map pieces_of es))
-      (gap_free (pieces_of e).1 all.0)
-      (more_listed_free es all.1) rest is).safe;
-}
-
 listed_safe : (es : List Expr) → Each IsSafePrinted es
     → IsSafeBefore (listed_pieces (map pieces_of es))
-listed_safe [] all rest is = is.safe
-listed_safe (e ∷ es) all rest is =
-    both (pieces_of e).1 (more_listed (map pieces_of es)) all.0 (more_listed_free es all.1) rest is
-
--- behind `(`, a list up to `)`
-arguments_free : (gap : Bool) (ps : List Piece) → IsSafeBefore ps
-    → IsFreeBefore (record { gap = gap; word = word.Open } ∷ (ps ++ (close word.Close ∷ [])))
-arguments_free gap ps safe rest is =
-    record { begins = by_gap gap; safe = bracketed_safe ps safe rest is }
+listed_safe es all = joined_safe (λ (p : Leveled). p.1) comma comma_free (map pieces_of es) (each es all)
   where
-    by_gap : (g : Bool) → (g || true) ≡ true
-    by_gap true = refl
-    by_gap false = refl
+    each : (trees : List Expr) → Each IsSafePrinted trees
+        → Each (λ (p : Leveled). IsSafeBefore p.1) (map pieces_of trees)
+    each [] are = tt
+    each (e ∷ trees) are = (are.0, each trees are.1)
 
-aggregate_safe : (op : AggregateOp) (g : Option Grouping) (ps : List Printed)
-    → IsSafeBefore (listed_pieces ps)
-    → IsSafeBefore (aggregate_pieces op g ps)
-aggregate_safe op None ps safe rest is =
-    before_free (close (aggregate_word op))
-    (close word.Open ∷ ((listed_pieces ps ++ (close word.Close ∷ [])) ++ rest))
-    (arguments_free false (listed_pieces ps) safe rest is)
-aggregate_safe op (Some g) ps safe rest is =
-    let arguments : List Piece = spaced word.Open ∷ (listed_pieces ps ++ (close word.Close ∷ [])) in
-    let behind : IsFree ((labels_pieces g.labels ++ arguments) ++ rest) =
-    both_free (labels_pieces g.labels) arguments (labels_free g.labels)
-    (arguments_free true (listed_pieces ps) safe) rest is in
-    before_free (close (aggregate_word op))
-    (spaced (grouping_word g.by) ∷ ((labels_pieces g.labels ++ arguments) ++ rest))
-    (record {
-      begins = refl;
-      safe = before_free (spaced (grouping_word g.by))
-          ((labels_pieces g.labels ++ arguments) ++ rest) behind;
-    })
+aggregate_safe : (op : AggregateOp) (g : Option Grouping) (ps : List Piece) → IsSafeBefore ps
+    → IsSafeBefore (written (aggregate_word op)
+    ∷ (grouping_pieces g ++ (written word.Open ∷ (ps ++ (written word.Close ∷ [])))))
+aggregate_safe op g ps safe rest is =
+    let arguments : List Piece = written word.Open ∷ (ps ++ (written word.Close ∷ [])) in
+    before_free (aggregate_word op) ((grouping_pieces g ++ arguments) ++ rest)
+    (both_free (grouping_pieces g) arguments (grouping_free g) (bracketed_free ps safe) rest is)
 
 operator_safe : (op : BinaryOp) (boolean : Bool) (m : Option Matching) (l r : Expr) → IsSafePrinted l
     → IsSafePrinted r
     → IsSafeBefore (pieces_step (Expr-F.Binary op boolean m (pieces_of l ∷ []) (pieces_of r ∷ []))).1
 operator_safe op boolean m l r left right =
-    let right_pieces : List Piece = placed (level_of op - 1) (pieces_of r) in
-    let behind : List Piece = bool_pieces boolean ++ (matching_pieces m ++ behind_gap right_pieces) in
-    let behind_free : IsFreeBefore behind =
-    both_free (bool_pieces boolean) (matching_pieces m ++ behind_gap right_pieces) (bool_free boolean)
-    (both_free (matching_pieces m) (behind_gap right_pieces) (matching_free m)
-    (gap_free right_pieces (placed_safe (level_of op - 1) (pieces_of r) right))) in
-    both (placed (level_of op) (pieces_of l)) (spaced (operator_word op) ∷ behind)
-    (placed_safe (level_of op) (pieces_of l) left)
-    (λ rest is. record {
-      begins = refl;
-      safe = before_free (spaced (operator_word op))
-          (behind ++ rest) (behind_free rest is);
-    })
+    let ops : List Piece = operator_pieces op boolean m in
+    let rs : List Piece = placed (level_of op - 1) (pieces_of r) in
+    both (placed (level_of op) (pieces_of l)) (ops ++ rs) (placed_safe (level_of op) (pieces_of l) left)
+    (λ rest is. rw (append_assoc ops rs rest)
+    (operator_free op boolean m (rs ++ rest) (placed_safe (level_of op - 1) (pieces_of r) right rest is)))
 
 sign_safe : (minus : Bool) (ps : List Piece) → IsSafeBefore ps
-    → IsSafeBefore (close (sign_word minus) ∷ ps)
-sign_safe true ps safe rest is = opens (close word.Minus) (ps ++ rest) refl refl (safe rest is)
-sign_safe false ps safe rest is = opens (close word.Plus) (ps ++ rest) refl refl (safe rest is)
+    → IsSafeBefore (written (sign_word minus) ∷ ps)
+sign_safe true ps safe rest is = opens word.Minus (ps ++ rest) refl refl (safe rest is)
+sign_safe false ps safe rest is = opens word.Plus (ps ++ rest) refl refl (safe rest is)
 
 safe_by : (e : Expr) (node : Expr-F Expr) → out-Expr e ≡ node
-    → IsSafeBefore (pieces_step (map-Expr Expr Printed pieces_of node)).1
+    → IsSafeBefore (pieces_step (map-Expr Expr Leveled pieces_of node)).1
     → IsSafePrinted e
-safe_by e node is safe = subst (λ (p : Printed). IsSafeBefore p.1) (sym (pieces_at e node is)) safe
+safe_by e node is safe = subst (λ (p : Leveled). IsSafeBefore p.1) (sym (pieces_at e node is)) safe
 
 pub printed_safe : (W : Word → Type 0) → Inherited W IsSafePrinted
 printed_safe W = record {
   number = λ z has. safe_by (expr.Number z) (Expr-F.Number z) (out-Number z)
-      (before_free (close (word.Number z)));
+      (before_free (word.Number z));
   string = λ text has. safe_by (expr.Str text) (Expr-F.Str text) (out-Str text)
-      (before_free (close (word.Quoted text)));
+      (before_free (word.Quoted text));
   selector = λ name ms range offset named are values in_range in_offset.
       safe_by (expr.Select name ms range offset) (Expr-F.Select name ms range offset)
       (out-Select name ms range offset)
@@ -322,16 +306,16 @@ printed_safe W = record {
       (out-Binary op boolean m (l ∷ []) (r ∷ [])) (operator_safe op boolean m l r left right);
   call = λ function args has are. safe_by (expr.Call function args) (Expr-F.Call function args)
       (out-Call function args)
-      (λ rest is. before_free (close (word.Name keyword.Plain function))
-      (close word.Open ∷ ((listed_pieces (map pieces_of args) ++ (close word.Close ∷ [])) ++ rest))
-      (arguments_free false (listed_pieces (map pieces_of args)) (listed_safe args are) rest is));
+      (λ rest is. before_free (word.Name keyword.Plain function)
+      (written word.Open ∷ ((listed_pieces (map pieces_of args) ++ (written word.Close ∷ [])) ++ rest))
+      (bracketed_free (listed_pieces (map pieces_of args)) (listed_safe args are) rest is));
   aggregate = λ op g e is of. safe_by (expr.Aggregate op g [] (e ∷ []))
       (Expr-F.Aggregate op g [] (e ∷ [])) (out-Aggregate op g [] (e ∷ []))
-      (aggregate_safe op g (pieces_of e ∷ []) (listed_safe (e ∷ []) (of, tt)));
+      (aggregate_safe op g (listed_pieces (pieces_of e ∷ [])) (listed_safe (e ∷ []) (of, tt)));
   aggregate_param = λ op g p e is first of.
       safe_by (expr.Aggregate op g (p ∷ []) (e ∷ [])) (Expr-F.Aggregate op g (p ∷ []) (e ∷ []))
       (out-Aggregate op g (p ∷ []) (e ∷ []))
-      (aggregate_safe op g (pieces_of p ∷ pieces_of e ∷ [])
+      (aggregate_safe op g (listed_pieces (pieces_of p ∷ pieces_of e ∷ []))
       (listed_safe (p ∷ e ∷ []) (first, (of, tt))));
 }
 

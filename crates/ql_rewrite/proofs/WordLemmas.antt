@@ -3,12 +3,12 @@ use Rattle.std.proofs.Common.{◌≡◌, ℕ, ◌≤◌, pos, negsuc, nat_abs, B
 use Rattle.std.proofs.lemmas.Int.{ints}
 use Rattle.op_base.specs.Names.{is_metric_byte}
 use Rattle.op_base.proofs.SpanReadLemmas.{of_size}
-use Rattle.ql_tree.specs.Printed.{quoted_text}
+use Rattle.ql_tree.specs.Pieces.{bytes_of, quoted_text}
 use Rattle.ql_tree.specs.Tokens.{gap_at, token_at, symbol_at, MOST}
 use Rattle.ql_tree.specs.Words.{word_of, number_of}
 use Rattle.ql_tree.specs.declared.word.Word.{Word}
 use Rattle.ql_tree.specs.declared.word.Word.TheVariants as word
-use Rattle.ql_rewrite.proofs.Written.{bytes_of, kind_of, IsWritten, is_run, may_double, begins_equal, is_safe}
+use Rattle.ql_rewrite.proofs.Written.{kind_of, IsWritten, is_run, may_double, begins_equal, is_safe}
 use Rattle.ql_rewrite.proofs.RunLemmas.{begins, is_second, name_token, begins_both, run_is_not_second, run_is_no_gap, name_begins}
 use Rattle.ql_rewrite.proofs.NumberLemmas.{begins_metric, decimal_is_numeric, decimal_value, number_token, duration_token, duration_begins, duration_value}
 use Rattle.ql_rewrite.proofs.QuoteLemmas.{quoted_token, quoted_value}

@@ -1,12 +1,10 @@
--- Words as texts: the bytes that each is written with, which of them are written so that they are
--- read again, and which may stand behind which without a space.
-use Rattle.std.proofs.Common.{◌≡◌, ℕ, pos, ◌≤◌, ◌≤ℤ◌, Bool, true, false, List, [], ◌∷◌, ◌++◌, nat_abs, codes, length, not, ◌&&◌, ◌||◌, if◌then◌else◌}
-use Rattle.std.specs.Fmt.{signed_decimal}
+-- Words as texts: which of them are written so that they are read again, and which may stand behind
+-- which without a blank.
+use Rattle.std.proofs.Common.{◌≡◌, ℕ, pos, ◌≤◌, ◌≤ℤ◌, Bool, true, false, List, [], ◌∷◌, nat_abs, length, not, ◌&&◌}
 use Rattle.std.specs.List.{AllByRecursion as Each}
 use Rattle.op_base.specs.Names.{is_metric_name}
 use Rattle.op_base.specs.Spans.{longest}
-use Rattle.ql_tree.specs.Durations.{duration_text}
-use Rattle.ql_tree.specs.Printed.{quoted_text}
+use Rattle.ql_tree.specs.Pieces.{Piece, bytes_of}
 use Rattle.ql_tree.specs.Tokens.{MOST, token_of}
 use Rattle.ql_tree.specs.Words.{keyword_of}
 use Rattle.ql_tree.specs.declared.token.Token.{Token}
@@ -14,36 +12,6 @@ use Rattle.ql_tree.specs.declared.token.TokenKind.{TokenKind}
 use Rattle.ql_tree.specs.declared.token.TokenKind.TheVariants as kind
 use Rattle.ql_tree.specs.declared.word.Word.{Word}
 use Rattle.ql_tree.specs.declared.word.Word.TheVariants as word
-use Rattle.ql_rewrite.proofs.Pieces.{Piece}
-
--- what a word is written with: a number in decimal, a duration as one number with a unit, a name as
--- it stands, a string in quotes
-abbrev pub bytes_of : Word → List ℕ
-bytes_of (word.Number z) = signed_decimal z
-bytes_of (word.Duration span) = duration_text (nat_abs span.0)
-bytes_of (word.Name k text) = text
-bytes_of (word.Quoted text) = quoted_text text
-bytes_of word.Plus = codes "+"
-bytes_of word.Minus = codes "-"
-bytes_of word.Star = codes "*"
-bytes_of word.Slash = codes "/"
-bytes_of word.Percent = codes "%"
-bytes_of word.Equal = codes "=="
-bytes_of word.NotEqual = codes "!="
-bytes_of word.Greater = codes ">"
-bytes_of word.Less = codes "<"
-bytes_of word.GreaterEqual = codes ">="
-bytes_of word.LessEqual = codes "<="
-bytes_of word.Assign = codes "="
-bytes_of word.Match = codes "=~"
-bytes_of word.NotMatch = codes "!~"
-bytes_of word.Open = codes "("
-bytes_of word.Close = codes ")"
-bytes_of word.OpenBrace = codes "{"
-bytes_of word.CloseBrace = codes "}"
-bytes_of word.OpenSquare = codes "["
-bytes_of word.CloseSquare = codes "]"
-bytes_of word.Comma = codes ","
 
 -- the kind of its token
 abbrev pub kind_of : Word → TokenKind
@@ -89,22 +57,23 @@ begins_equal _ = false
 abbrev pub is_safe : Word → Word → Bool
 is_safe v w = not (is_run v && is_run w) && not (may_double v && begins_equal w)
 
+-- the words of the pieces
+abbrev pub words_of : List Piece → List Word
+words_of [] = []
+words_of (Piece.blank ∷ pieces) = words_of pieces
+words_of (Piece.written w ∷ pieces) = w ∷ words_of pieces
+
+-- the word may stand right before the pieces
 abbrev pub is_safe_before : Word → List Piece → Bool
 is_safe_before w [] = true
-is_safe_before w (p ∷ pieces) = p.gap || is_safe w p.word
+is_safe_before w (Piece.blank ∷ pieces) = true
+is_safe_before w (Piece.written v ∷ pieces) = is_safe w v
 
--- each two neighbours with no space between them may stand so
+-- each two words with no blank between them may stand so
 abbrev pub are_safe : List Piece → Bool
 are_safe [] = true
-are_safe (p ∷ pieces) = is_safe_before p.word pieces && are_safe pieces
-
-abbrev pub gap_text : Bool → List ℕ
-gap_text gap = if gap then codes " " else []
-
--- the text that the pieces are
-abbrev pub text_of : List Piece → List ℕ
-text_of [] = []
-text_of (p ∷ pieces) = gap_text p.gap ++ (bytes_of p.word ++ text_of pieces)
+are_safe (Piece.blank ∷ pieces) = are_safe pieces
+are_safe (Piece.written w ∷ pieces) = is_safe_before w pieces && are_safe pieces
 
 -- the token of the word at a place
 abbrev pub token_at_place : ℕ → Word → Token

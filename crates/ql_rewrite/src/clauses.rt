@@ -1,6 +1,7 @@
 ghost use Rattle.std.specs.Prelude.{◌≡◌, ◌≤◌, ◌++◌, OnOk, codes, if◌then◌else◌};
-ghost use Rattle.std.specs.List.{flat_map};
+ghost use Rattle.std.specs.List.{join_by};
 ghost use Rattle.ql_tree.specs.Operators as operators;
+ghost use Rattle.ql_tree.specs.Pieces.{bytes_of, text_of};
 ghost use Rattle.ql_tree.specs.Printed as spec;
 
 use op_base::{MatchOp, NoMemory, Text};
@@ -23,7 +24,7 @@ pub(crate) fn aggregate_name(op: AggregateOp) -> &'static str
 }
 
 fn arith_name(op: ArithOp) -> &'static str
-    ensures { result.now ≡ spec.arith_name op }
+    ensures { result.now ≡ bytes_of (spec.operator_word (BinaryOp.Arith op)) }
 {
     match op {
         ArithOp::Add => "+",
@@ -35,7 +36,7 @@ fn arith_name(op: ArithOp) -> &'static str
 }
 
 fn operator_name(op: BinaryOp) -> &'static str
-    ensures { result.now ≡ spec.operator_name op }
+    ensures { result.now ≡ bytes_of (spec.operator_word op) }
 {
     match op {
         BinaryOp::Arith(op) => arith_name(op),
@@ -52,7 +53,7 @@ fn operator_name(op: BinaryOp) -> &'static str
 }
 
 pub(crate) fn match_name(op: MatchOp) -> &'static str
-    ensures { result.now ≡ spec.match_name op }
+    ensures { result.now ≡ bytes_of (spec.match_word op) }
 {
     match op {
         MatchOp::Eq => "=",
@@ -86,15 +87,15 @@ pub(crate) fn level_of(op: BinaryOp) -> usize
     }
 }
 
-/// The operator with what stands between it and its right operand, spaces included.
+/// The operator with what stands between it and its right operand, blanks included.
+#[tactic(auto, using(crate::proofs::PrintLemmas::at_operator_pieces))]
 pub(crate) fn push_operator(
     text: &mut Text,
     op: BinaryOp,
     boolean: bool,
     matching: &Option<Matching>,
 ) -> Result<(), NoMemory>
-    ensures { OnOk result (text.new ≡ text.old ++ codes " " ++ spec.operator_name op
-        ++ (if boolean then codes " bool" else codes "") ++ spec.matching_text matching.now ++ codes " ") }
+    ensures { OnOk result (text.new ≡ text.old ++ text_of (spec.operator_pieces op boolean matching.now)) }
 {
     text.push_str(" ")?;
     text.push_str(operator_name(op))?;
@@ -103,75 +104,99 @@ pub(crate) fn push_operator(
     text.push_str(" ")
 }
 
+#[tactic(auto, unfolding(ql_tree::specs::Printed::matching_word))]
+fn matching_name(on: bool) -> &'static str
+    ensures { result.now ≡ bytes_of (spec.matching_word on) }
+{
+    if on { "on" } else { "ignoring" }
+}
+
+#[tactic(auto, unfolding(ql_tree::specs::Printed::side_word))]
+fn side_name(left: bool) -> &'static str
+    ensures { result.now ≡ bytes_of (spec.side_word left) }
+{
+    if left { "group_left" } else { "group_right" }
+}
+
+#[tactic(auto, unfolding(ql_tree::specs::Printed::grouping_word))]
+fn grouping_name(by: bool) -> &'static str
+    ensures { result.now ≡ bytes_of (spec.grouping_word by) }
+{
+    if by { "by" } else { "without" }
+}
+
+#[tactic(auto, using(crate::proofs::PrintLemmas::at_matching))]
 fn push_matching(text: &mut Text, matching: &Option<Matching>) -> Result<(), NoMemory>
-    ensures { OnOk result (text.new ≡ text.old ++ spec.matching_text matching.now) }
+    ensures { OnOk result (text.new ≡ text.old ++ text_of (spec.matching_pieces matching.now)) }
 {
     match matching {
         None => Ok(()),
         Some(m) => {
-            text.push_str(if m.on { " on " } else { " ignoring " })?;
-            push_labels(text, m.labels.as_slice())?;
+            push_clause(text, matching_name(m.on), m.labels.as_slice())?;
             push_side(text, &m.side)
         }
     }
 }
 
+#[tactic(auto, using(crate::proofs::PrintLemmas::at_clause))]
 fn push_side(text: &mut Text, side: &Option<Side>) -> Result<(), NoMemory>
-    ensures { OnOk result (text.new ≡ text.old ++ spec.side_text side.now) }
+    ensures { OnOk result (text.new ≡ text.old ++ text_of (spec.side_pieces side.now)) }
 {
     match side {
         None => Ok(()),
-        Some(side) => {
-            text.push_str(if side.left {
-                " group_left "
-            } else {
-                " group_right "
-            })?;
-            push_labels(text, side.include.as_slice())
-        }
+        Some(side) => push_clause(text, side_name(side.left), side.include.as_slice()),
     }
 }
 
+#[tactic(auto, using(crate::proofs::PrintLemmas::at_grouping))]
 pub(crate) fn push_grouping(text: &mut Text, grouping: &Option<Grouping>) -> Result<(), NoMemory>
-    ensures { OnOk result (text.new ≡ text.old ++ spec.grouping_text grouping.now) }
+    ensures { OnOk result (text.new ≡ text.old ++ text_of (spec.grouping_pieces grouping.now)) }
 {
     match grouping {
         None => Ok(()),
         Some(g) => {
-            text.push_str(if g.by { " by " } else { " without " })?;
-            push_labels(text, g.labels.as_slice())?;
+            push_clause(text, grouping_name(g.by), g.labels.as_slice())?;
             text.push_str(" ")
         }
     }
 }
 
-#[tactic(auto, unfolding(ql_tree::specs::Printed::labels_text))]
-fn push_labels(text: &mut Text, labels: &[Text]) -> Result<(), NoMemory>
-    ensures { OnOk result (text.new ≡ text.old ++ spec.labels_text labels.now) }
+/// The word of a clause and its labels, each behind a blank.
+fn push_clause(text: &mut Text, name: &str, labels: &[Text]) -> Result<(), NoMemory>
+    ensures { OnOk result (text.new ≡ text.old
+        ++ codes " " ++ name.now ++ codes " " ++ text_of (spec.labels_pieces labels.now)) }
 {
-    text.push_str("(")?;
-    match labels {
-        [] => text.push_str(")"),
-        [first, rest @ ..] => {
-            text.push_str(first.as_str())?;
-            push_more_labels(text, rest)?;
-            text.push_str(")")
-        }
-    }
+    text.push_str(" ")?;
+    text.push_str(name)?;
+    text.push_str(" ")?;
+    push_labels(text, labels)
 }
 
-fn push_more_labels(text: &mut Text, labels: &[Text]) -> Result<(), NoMemory>
-    ensures { OnOk result (text.new ≡ text.old ++ flat_map (λ label. codes ", " ++ label) labels.now) }
+#[tactic(auto, using(crate::proofs::PrintLemmas::at_labels))]
+fn push_labels(text: &mut Text, labels: &[Text]) -> Result<(), NoMemory>
+    ensures { OnOk result (text.new ≡ text.old ++ text_of (spec.labels_pieces labels.now)) }
 {
+    text.push_str("(")?;
+    push_listed_labels(text, labels)?;
+    text.push_str(")")
+}
+
+/// The labels with a comma and a blank between each two.
+fn push_listed_labels(text: &mut Text, labels: &[Text]) -> Result<(), NoMemory>
+    ensures { OnOk result (text.new ≡ text.old ++ join_by (λ label. label) (codes ", ") labels.now) }
+{
+    let mut behind = false;
     for label in labels {
-        push_next_label(text, label.as_str())?;
+        push_label(text, behind, label.as_str())?;
+        behind = true;
     }
     Ok(())
 }
 
-fn push_next_label(text: &mut Text, label: &str) -> Result<(), NoMemory>
-    ensures { OnOk result (text.new ≡ text.old ++ codes ", " ++ label.now) }
+/// The label, with a comma and a blank before it where it stands `behind` others.
+fn push_label(text: &mut Text, behind: bool, label: &str) -> Result<(), NoMemory>
+    ensures { OnOk result (text.new ≡ text.old ++ (if behind then codes ", " else codes "") ++ label.now) }
 {
-    text.push_str(", ")?;
+    text.push_str(if behind { ", " } else { "" })?;
     text.push_str(label)
 }

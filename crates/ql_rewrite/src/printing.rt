@@ -1,6 +1,7 @@
-ghost use Rattle.std.specs.Prelude.{◌≡◌, ℕ, ◌++◌, List, IfOk, OnOk, codes, map};
+ghost use Rattle.std.specs.Prelude.{◌≡◌, ℕ, ◌++◌, List, IfOk, OnOk, codes, map, if◌then◌else◌};
 ghost use Rattle.std.specs.Fmt.{signed_decimal};
-ghost use Rattle.std.specs.List.{flat_map};
+ghost use Rattle.std.specs.List.{flat_map, join_by};
+ghost use Rattle.ql_tree.specs.Pieces.{text_of};
 ghost use Rattle.ql_tree.specs.Printed as spec;
 ghost use Rattle.ql_tree.specs.Spells.{Spells};
 
@@ -10,7 +11,7 @@ use op_base::{NoMemory, Text};
 use ql_tree::Expr;
 use std::alloc::Global;
 
-/// The text of the tree: single spaces, lower-case operators, and no bracket that isn't needed. Of
+/// The text of the tree: single blanks, lower-case operators, and no bracket that isn't needed. Of
 /// a tree that some text spells it is a text that spells that tree again.
 #[tactic(auto, unfolding(ql_tree::specs::Printed::printed), using(crate::proofs::SpelledAgain::printed_again))]
 pub fn print(alloc: Global, expr: &Expr) -> Result<Text, NoMemory>
@@ -25,7 +26,7 @@ pub fn print(alloc: Global, expr: &Expr) -> Result<Text, NoMemory>
 #[cycle(printing)]
 #[tactic(auto, using(crate::proofs::PrintLemmas::at_select, crate::proofs::PrintLemmas::at_sign, crate::proofs::PrintLemmas::at_operator, crate::proofs::PrintLemmas::at_call, crate::proofs::PrintLemmas::at_aggregate))]
 fn push_tree(alloc: Global, text: &mut Text, expr: &Expr) -> Result<(), NoMemory>
-    ensures { OnOk result (text.new ≡ text.old ++ (spec.piece_of expr.now).1) }
+    ensures { OnOk result (text.new ≡ text.old ++ text_of (spec.pieces_of expr.now).1) }
 {
     match expr {
         Expr::Number(n) => push_number(alloc, text, *n),
@@ -55,7 +56,7 @@ fn push_tree(alloc: Global, text: &mut Text, expr: &Expr) -> Result<(), NoMemory
         Expr::Call { function, args } => {
             text.push_str(function.as_str())?;
             text.push_str("(")?;
-            push_listed(alloc, text, args.as_slice())?;
+            push_listed(alloc, text, false, args.as_slice())?;
             text.push_str(")")
         }
         Expr::Aggregate {
@@ -67,7 +68,8 @@ fn push_tree(alloc: Global, text: &mut Text, expr: &Expr) -> Result<(), NoMemory
             text.push_str(aggregate_name(*op))?;
             push_grouping(text, grouping)?;
             text.push_str("(")?;
-            push_both(alloc, text, param.as_slice(), of.as_slice())?;
+            push_listed(alloc, text, false, param.as_slice())?;
+            push_listed(alloc, text, !param.as_slice().is_empty(), of.as_slice())?;
             text.push_str(")")
         }
     }
@@ -81,7 +83,7 @@ fn push_operand(
     loosest: usize,
     exprs: &[Expr],
 ) -> Result<(), NoMemory>
-    ensures { OnOk result (text.new ≡ text.old ++ spec.operand_text loosest (map spec.piece_of exprs.now)) }
+    ensures { OnOk result (text.new ≡ text.old ++ text_of (spec.operand_pieces loosest (map spec.pieces_of exprs.now))) }
 {
     match exprs {
         [] => Ok(()),
@@ -91,9 +93,9 @@ fn push_operand(
 
 /// The tree's text, in brackets where its level is looser.
 #[cycle(printing)]
-#[tactic(auto, unfolding(ql_tree::specs::Printed::placed))]
+#[tactic(auto, using(crate::proofs::PrintLemmas::at_brackets))]
 fn push_placed(alloc: Global, text: &mut Text, loosest: usize, expr: &Expr) -> Result<(), NoMemory>
-    ensures { OnOk result (text.new ≡ text.old ++ spec.placed loosest (spec.piece_of expr.now)) }
+    ensures { OnOk result (text.new ≡ text.old ++ text_of (spec.placed loosest (spec.pieces_of expr.now))) }
 {
     if loosest < level(expr) {
         text.push_str("(")?;
@@ -104,65 +106,34 @@ fn push_placed(alloc: Global, text: &mut Text, loosest: usize, expr: &Expr) -> R
     }
 }
 
-/// The trees' texts with a comma and a space between each two.
+/// The trees' texts with a comma and a blank between each two, and before the first where it stands
+/// `behind` others.
 #[cycle(printing)]
-fn push_listed(alloc: Global, text: &mut Text, exprs: &[Expr]) -> Result<(), NoMemory>
-    ensures { OnOk result (text.new ≡ text.old ++ spec.listed_text (map spec.piece_of exprs.now)) }
+fn push_listed(alloc: Global, text: &mut Text, behind: bool, exprs: &[Expr]) -> Result<(), NoMemory>
+    ensures { OnOk result (text.new ≡ text.old ++ (if behind then flat_map (λ p. codes ", " ++ text_of p.1) (map spec.pieces_of exprs.now)
+        else join_by (λ p. text_of p.1) (codes ", ") (map spec.pieces_of exprs.now))) }
 {
-    match exprs {
-        [] => Ok(()),
-        [first, rest @ ..] => {
-            push_tree(alloc, text, first)?;
-            push_more(alloc, text, rest)
-        }
-    }
-}
-
-/// The same of two lists, one behind the other.
-#[cycle(printing)]
-#[tactic(auto, using(crate::proofs::PrintLemmas::listed_both))]
-fn push_both(
-    alloc: Global,
-    text: &mut Text,
-    first: &[Expr],
-    second: &[Expr],
-) -> Result<(), NoMemory>
-    ensures { OnOk result (text.new ≡ text.old
-        ++ spec.listed_text (map spec.piece_of first.now ++ map spec.piece_of second.now)) }
-{
-    match first {
-        [] => push_listed(alloc, text, second),
-        [head, rest @ ..] => {
-            push_tree(alloc, text, head)?;
-            push_more(alloc, text, rest)?;
-            push_more(alloc, text, second)
-        }
-    }
-}
-
-/// The trees' texts, each behind a comma and a space.
-#[cycle(printing)]
-fn push_more(alloc: Global, text: &mut Text, exprs: &[Expr]) -> Result<(), NoMemory>
-    ensures { OnOk result (text.new ≡ text.old
-        ++ flat_map (λ piece. codes ", " ++ piece.1) (map spec.piece_of exprs.now)) }
-{
+    let mut more = behind;
     for expr in exprs {
-        push_next(alloc, text, expr)?;
+        push_item(alloc, text, more, expr)?;
+        more = true;
     }
     Ok(())
 }
 
+/// The tree's text, with a comma and a blank before it where it stands `behind` others.
 #[cycle(printing)]
-fn push_next(alloc: Global, text: &mut Text, expr: &Expr) -> Result<(), NoMemory>
-    ensures { OnOk result (text.new ≡ text.old ++ codes ", " ++ (spec.piece_of expr.now).1) }
+fn push_item(alloc: Global, text: &mut Text, behind: bool, expr: &Expr) -> Result<(), NoMemory>
+    ensures { OnOk result (text.new ≡ text.old
+        ++ (if behind then codes ", " else codes "") ++ text_of (spec.pieces_of expr.now).1) }
 {
-    text.push_str(", ")?;
+    text.push_str(if behind { ", " } else { "" })?;
     push_tree(alloc, text, expr)
 }
 
 /// The level of the tree: that of its operator, or 0.
 fn level(expr: &Expr) -> usize
-    ensures { result ≡ (spec.piece_of expr.now).0 }
+    ensures { result ≡ (spec.pieces_of expr.now).0 }
 {
     match expr {
         Expr::Binary { op, .. } => level_of(*op),

@@ -1,12 +1,14 @@
-ghost use Rattle.std.specs.Prelude.{◌≡◌, ◌++◌, Some, OnOk, codes, nat_abs, encode_utf8};
-ghost use Rattle.std.specs.List.{flat_map};
+ghost use Rattle.std.specs.Prelude.{◌≡◌, ◌++◌, Some, OnOk, codes, nat_abs, encode_utf8, if◌then◌else◌};
+ghost use Rattle.std.specs.List.{flat_map, join_by};
 ghost use Rattle.ql_tree.specs.Durations.{duration_text};
+ghost use Rattle.ql_tree.specs.Pieces.{escaped, quoted_text, text_of};
 ghost use Rattle.ql_tree.specs.Printed as spec;
 
 use crate::clauses::match_name;
 use op_base::{Matcher, NoMemory, Span, Text, span_text};
 use std::alloc::Global;
 
+#[tactic(auto, using(crate::proofs::PrintLemmas::at_selector))]
 pub(crate) fn push_selector(
     alloc: Global,
     text: &mut Text,
@@ -16,7 +18,7 @@ pub(crate) fn push_selector(
     offset: &Option<Span>,
 ) -> Result<(), NoMemory>
     ensures { OnOk result (text.new ≡ text.old
-        ++ spec.head_text name.now matchers.now ++ spec.range_text range.now ++ spec.offset_text offset.now) }
+        ++ text_of (spec.selector_pieces name.now matchers.now range.now offset.now)) }
 {
     push_head(text, name, matchers)?;
     push_range(alloc, text, range)?;
@@ -24,7 +26,7 @@ pub(crate) fn push_selector(
 }
 
 fn push_head(text: &mut Text, name: &Option<Text>, matchers: &[Matcher]) -> Result<(), NoMemory>
-    ensures { OnOk result (text.new ≡ text.old ++ spec.head_text name.now matchers.now) }
+    ensures { OnOk result (text.new ≡ text.old ++ text_of (spec.head_pieces name.now matchers.now)) }
 {
     match name {
         None => push_braces(text, matchers),
@@ -33,7 +35,7 @@ fn push_head(text: &mut Text, name: &Option<Text>, matchers: &[Matcher]) -> Resu
 }
 
 fn push_named(text: &mut Text, name: &str, matchers: &[Matcher]) -> Result<(), NoMemory>
-    ensures { OnOk result (text.new ≡ text.old ++ spec.head_text (Some name.now) matchers.now) }
+    ensures { OnOk result (text.new ≡ text.old ++ text_of (spec.head_pieces (Some name.now) matchers.now)) }
 {
     match matchers {
         [] => text.push_str(name),
@@ -44,48 +46,49 @@ fn push_named(text: &mut Text, name: &str, matchers: &[Matcher]) -> Result<(), N
     }
 }
 
-#[tactic(auto, unfolding(ql_tree::specs::Printed::braces_text))]
+#[tactic(auto, using(crate::proofs::PrintLemmas::at_braces))]
 fn push_braces(text: &mut Text, matchers: &[Matcher]) -> Result<(), NoMemory>
-    ensures { OnOk result (text.new ≡ text.old ++ spec.braces_text matchers.now) }
+    ensures { OnOk result (text.new ≡ text.old ++ text_of (spec.braces_pieces matchers.now)) }
 {
     text.push_str("{")?;
-    match matchers {
-        [] => text.push_str("}"),
-        [first, rest @ ..] => {
-            push_matcher(text, first)?;
-            push_more_matchers(text, rest)?;
-            text.push_str("}")
-        }
-    }
+    push_listed_matchers(text, matchers)?;
+    text.push_str("}")
 }
 
-fn push_more_matchers(text: &mut Text, matchers: &[Matcher]) -> Result<(), NoMemory>
-    ensures { OnOk result (text.new ≡ text.old ++ flat_map (λ m. codes "," ++ spec.matcher_text m) matchers.now) }
+/// The matchers with a comma between each two.
+fn push_listed_matchers(text: &mut Text, matchers: &[Matcher]) -> Result<(), NoMemory>
+    ensures { OnOk result (text.new ≡ text.old
+        ++ join_by (λ m. text_of (spec.matcher_pieces m)) (codes ",") matchers.now) }
 {
+    let mut behind = false;
     for m in matchers {
-        push_next_matcher(text, m)?;
+        push_next_matcher(text, behind, m)?;
+        behind = true;
     }
     Ok(())
 }
 
-fn push_next_matcher(text: &mut Text, m: &Matcher) -> Result<(), NoMemory>
-    ensures { OnOk result (text.new ≡ text.old ++ codes "," ++ spec.matcher_text m.now) }
+/// The matcher, with a comma before it where it stands `behind` others.
+fn push_next_matcher(text: &mut Text, behind: bool, m: &Matcher) -> Result<(), NoMemory>
+    ensures { OnOk result (text.new ≡ text.old
+        ++ (if behind then codes "," else codes "") ++ text_of (spec.matcher_pieces m.now)) }
 {
-    text.push_str(",")?;
+    text.push_str(if behind { "," } else { "" })?;
     push_matcher(text, m)
 }
 
-#[tactic(auto, unfolding(ql_tree::specs::Printed::matcher_text))]
+#[tactic(auto, using(crate::proofs::PrintLemmas::at_matcher))]
 fn push_matcher(text: &mut Text, m: &Matcher) -> Result<(), NoMemory>
-    ensures { OnOk result (text.new ≡ text.old ++ spec.matcher_text m.now) }
+    ensures { OnOk result (text.new ≡ text.old ++ text_of (spec.matcher_pieces m.now)) }
 {
     text.push_str(m.name.as_str())?;
     text.push_str(match_name(m.op))?;
     push_quoted(text, m.value.as_str())
 }
 
+#[tactic(auto, using(crate::proofs::PrintLemmas::at_range))]
 fn push_range(alloc: Global, text: &mut Text, range: &Option<Span>) -> Result<(), NoMemory>
-    ensures { OnOk result (text.new ≡ text.old ++ spec.range_text range.now) }
+    ensures { OnOk result (text.new ≡ text.old ++ text_of (spec.range_pieces range.now)) }
 {
     match range {
         None => Ok(()),
@@ -97,8 +100,9 @@ fn push_range(alloc: Global, text: &mut Text, range: &Option<Span>) -> Result<()
     }
 }
 
+#[tactic(auto, using(crate::proofs::PrintLemmas::at_offset))]
 fn push_offset(alloc: Global, text: &mut Text, offset: &Option<Span>) -> Result<(), NoMemory>
-    ensures { OnOk result (text.new ≡ text.old ++ spec.offset_text offset.now) }
+    ensures { OnOk result (text.new ≡ text.old ++ text_of (spec.offset_pieces offset.now)) }
 {
     match offset {
         None => Ok(()),
@@ -130,9 +134,9 @@ fn push_longest(alloc: Global, text: &mut Text) -> Result<(), NoMemory>
     text.push_str(format!(in alloc; "{size}ms")?.as_str())
 }
 
-#[tactic(auto, unfolding(ql_tree::specs::Printed::quoted_text))]
+#[tactic(auto, unfolding(ql_tree::specs::Pieces::quoted_text))]
 pub(crate) fn push_quoted(text: &mut Text, value: &str) -> Result<(), NoMemory>
-    ensures { OnOk result (text.new ≡ text.old ++ spec.quoted_text value.now) }
+    ensures { OnOk result (text.new ≡ text.old ++ quoted_text value.now) }
 {
     text.push_str("\"")?;
     push_escaped(text, value)?;
@@ -140,7 +144,7 @@ pub(crate) fn push_quoted(text: &mut Text, value: &str) -> Result<(), NoMemory>
 }
 
 fn push_escaped(text: &mut Text, value: &str) -> Result<(), NoMemory>
-    ensures { OnOk result (text.new ≡ text.old ++ flat_map spec.escaped value.now) }
+    ensures { OnOk result (text.new ≡ text.old ++ flat_map escaped value.now) }
 {
     for c in value.chars() {
         push_escaped_char(text, c)?;
@@ -150,7 +154,7 @@ fn push_escaped(text: &mut Text, value: &str) -> Result<(), NoMemory>
 
 #[tactic(auto, using(crate::proofs::EscapeLemmas::kept_character))]
 fn push_escaped_char(text: &mut Text, c: char) -> Result<(), NoMemory>
-    ensures { OnOk result (text.new ≡ text.old ++ flat_map spec.escaped (encode_utf8 c)) }
+    ensures { OnOk result (text.new ≡ text.old ++ flat_map escaped (encode_utf8 c)) }
 {
     match c {
         '"' => text.push_str("\\\""),

@@ -6,7 +6,8 @@ use Rattle.ql_tree.specs.Calls.{call_shape, parameters_of, label_join_shape}
 use Rattle.ql_tree.specs.Durations.{is_duration}
 use Rattle.ql_tree.specs.Enforced.{enforced_matchers, matcher_of}
 use Rattle.ql_tree.specs.Operators.{is_comparison}
-use Rattle.ql_tree.specs.Printed.{placed, head_text, quoted_text, matcher_text, braces_text}
+use Rattle.ql_tree.specs.Pieces.{quoted_text, blank, written, text_of}
+use Rattle.ql_tree.specs.Printed.{placed, head_pieces}
 use Rattle.ql_tree.specs.Reserved.{is_reserved}
 use Rattle.ql_tree.specs.Shapes.{have_types}
 use Rattle.ql_tree.specs.Spells.{Chain, Signed, Atom, Within}
@@ -92,15 +93,15 @@ two_tokens =
     Cut.token 0 (codes "a 1") (kind.Word, 1) _ refl refl
     (Cut.gap 1 (codes " 1") _ (lit< tt) (Cut.token 2 (codes "1") (kind.Number, 1) _ refl refl (Cut.end 3)))
 
-operand_in_brackets : placed 1 (2, codes "a + b") ≡ codes "(a + b)"
-unfolding placed
+operand_in_brackets : text_of (placed 1 (2, written word.Plus ∷ blank ∷ written (word.Quoted (codes "a")) ∷ [])) ≡ codes "(+ \"a\")"
+unfolding quoted_text
 operand_in_brackets = refl
 
-short_braces : head_text None (matcher_of (codes "a") (codes "b") ∷ []) ≡ codes "{a=\"b\"}"
-unfolding braces_text matcher_text quoted_text
+short_braces : text_of (head_pieces None (matcher_of (codes "a") (codes "b") ∷ [])) ≡ codes "{a=\"b\"}"
+unfolding quoted_text
 short_braces = refl
 
-no_braces : head_text (Some (codes "x")) [] ≡ codes "x"
+no_braces : text_of (head_pieces (Some (codes "x")) []) ≡ codes "x"
 no_braces = refl
 
 cut_towards_zero : arith_of arith.Div (negsuc 6) (pos 2) ≡ Some (negsuc 2)

@@ -7,6 +7,7 @@ pub mod Enforced
 pub mod Faults
 pub mod Operators
 pub mod Patterns
+pub mod Pieces
 pub mod Printed
 pub mod Reserved
 pub mod Selecting

@@ -3,7 +3,7 @@ use Rattle.std.specs.Prelude.{encode_utf8}
 use Rattle.std.specs.List.{flat_map}
 use Rattle.std.proofs.lemmas.Iterator.{YieldsList-from_chars}
 use Rattle.std.proofs.lemmas.Iterator.Consumers.{YieldsList-end}
-use Rattle.ql_tree.specs.Printed.{escaped}
+use Rattle.ql_tree.specs.Pieces.{escaped}
 use Rattle.ql_rewrite.proofs.EscapeLemmas.{escaped_text}
 use Rattle.ql_rewrite.proofs.selectors.push_escaped.Goals as goal
 
