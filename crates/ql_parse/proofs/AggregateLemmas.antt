@@ -3,25 +3,26 @@ use Rattle.std.proofs.Common.{◌≡◌, ℕ, ◌≤◌, List, [], ◌∷◌, �
 use Rattle.ql_tree.specs.Children.{depth_of}
 use Rattle.ql_tree.specs.Clauses.{GroupingOf}
 use Rattle.ql_tree.specs.Operators.{aggregate_of, grouping_of}
-use Rattle.ql_tree.specs.Spells.{Spelling, is_open, Operands, Atom}
+use Rattle.ql_tree.specs.Spells.{Spelling, Operands, Atom}
 use Rattle.ql_tree.specs.declared.tree.AggregateOp.{AggregateOp}
 use Rattle.ql_tree.specs.declared.tree.Expr.{Expr}
 use Rattle.ql_tree.specs.declared.tree.Expr.TheVariants as expr
 use Rattle.ql_tree.specs.declared.tree.Grouping.{Grouping}
 use Rattle.ql_tree.specs.declared.word.Word.{Word}
 use Rattle.ql_tree.specs.declared.word.Word.TheVariants as word
-use Rattle.ql_parse.specs.Found.{Reader, ◌>>=◌, first, behind}
-use Rattle.ql_parse.specs.FrontWords.{is_comma}
+use Rattle.ql_parse.specs.Found.{Reader, ◌>>=◌, first}
+use Rattle.ql_parse.specs.FrontWords.{beyond}
 use Rattle.ql_parse.specs.ReadClauses.{grouping}
 use Rattle.ql_parse.specs.ReadTerms.{Operated, operands_behind, operands, grouping_behind, aggregate}
 use Rattle.ql_parse.proofs.Readers.{found_is, bind_ok, fitting_ok, fitting_fits}
-use Rattle.ql_parse.proofs.FrontLemmas.{behind_open, behind_comma}
+use Rattle.ql_parse.proofs.FrontLemmas.{behind_symbol}
 use Rattle.ql_parse.proofs.ClauseLemmas.{GroupingIf, grouping_sound, grouping_none, grouping_complete}
 use Rattle.ql_parse.proofs.ForwardLemmas.{Forward, front_part, back_part}
 use Rattle.ql_parse.proofs.DepthLemmas.{depths, depth-Aggregate}
 use Rattle.ql_parse.proofs.FollowLemmas.{Ends}
 use Rattle.ql_parse.proofs.LevelLemmas.{SoundTree, CompleteTree}
-use Rattle.ql_parse.proofs.CallLemmas.{closed_ok, after_comma}
+use Rattle.ql_parse.proofs.ListLemmas.{after_comma}
+use Rattle.ql_parse.proofs.CallLemmas.{closed_ok}
 
 -- the words of an aggregate behind its own
 put_together : (gs ts hs all before opened after rest : List Word) → all ≡ gs ++ before
@@ -44,7 +45,7 @@ module _ (n d : ℕ) (Inside : Spelling) (inside : Reader Expr) where
 
   operands_behind_sound : SoundTree d Inside inside
       → (ts us : List Word) (e : Expr) (after : List Word) (o : Option (List Word))
-      (x : Operated × List Word) → ts ≡ us ++ after → Inside e us → behind is_comma after ≡ o
+      (x : Operated × List Word) → ts ≡ us ++ after → Inside e us → beyond word.Comma after ≡ o
       → operands_behind inside e after o ≡ Some x → OperatedTo ts x
   operands_behind_sound sound ts us e after None x same spelled no_comma is =
       let c = closed_ok {A = Operated} ([], e) after x is in (
@@ -57,7 +58,7 @@ module _ (n d : ℕ) (Inside : Spelling) (inside : Reader Expr) where
       let s = sound vs of.0 of.1 in
       let c = closed_ok {A = Operated} (e ∷ [], of.0.0) of.0.1 x of.2 in (
         us ++ (word.Comma ∷ s.0),
-        after_comma us s.0 ts after vs x.1 word.Close same (behind_comma after vs some)
+        after_comma us s.0 ts after vs x.1 word.Close same (behind_symbol word.Comma after vs some)
             (s.1 ∙ ap (λ ws. s.0 ++ ws) c.0),
         subst
             (λ (y : Operated). Operands Inside y.0 y.1 (us ++ (word.Comma ∷ s.0)))
@@ -71,7 +72,7 @@ module _ (n d : ℕ) (Inside : Spelling) (inside : Reader Expr) where
   operands_sound sound ts x is =
       let e = bind_ok (inside ts) _ x is in
       let s = sound ts e.0 e.1 in
-      operands_behind_sound sound ts s.0 e.0.0 e.0.1 (behind is_comma e.0.1) x s.1 s.2 refl e.2
+      operands_behind_sound sound ts s.0 e.0.0 e.0.1 (beyond word.Comma e.0.1) x s.1 s.2 refl e.2
 
   operands_complete : CompleteTree d 5 Inside inside
       → (param : List Expr) (e : Expr) (us rest : List Word) → Operands Inside param e us
@@ -149,8 +150,8 @@ module _ (n d : ℕ) (Inside : Spelling) (inside : Reader Expr) where
   unfolding aggregate
   aggregate_sound sound w op ts x is found =
       let before = bind_ok (grouping n ts) _ x found in
-      let of = bind_ok (behind is_open before.0.1 >>= operands inside) _ x before.2 in
-      let opened = bind_ok (behind is_open before.0.1) (operands inside) of.0 of.1 in
+      let of = bind_ok (beyond word.Open before.0.1 >>= operands inside) _ x before.2 in
+      let opened = bind_ok (beyond word.Open before.0.1) (operands inside) of.0 of.1 in
       let g = bind_ok (grouping_behind n before.0.0 of.0.1) _ x of.2 in
       let gs = grouping_sound n ts before.0 before.1 in
       let s = operands_sound sound opened.0 of.0 opened.2 in
@@ -161,7 +162,7 @@ module _ (n d : ℕ) (Inside : Spelling) (inside : Reader Expr) where
       let words = gs.0 ++ (word.Open ∷ (s.0 ++ (word.Close ∷ a.0))) in
       let parts : ts ≡ words ++ g.0.1 =
       put_together gs.0 s.0 a.0 ts before.0.1 opened.0 of.0.1 g.0.1 gs.1
-      (behind_open before.0.1 opened.0 opened.1) s.1 a.1
+      (behind_symbol word.Open before.0.1 opened.0 opened.1) s.1 a.1
       in
       settled w ts words g.0.1 (expr.Aggregate op g.0.0 of.0.0.0 (of.0.0.1 ∷ [])) x fits.1 parts a.2 fits.0
 

@@ -1,11 +1,10 @@
 -- The reading of atoms: what is read is spelled, and what is spelled is read.
-use Rattle.std.proofs.Common.{◌≡◌, inl, inr, ℕ, ◌<◌, ◌≤◌, false, List, [], ◌∷◌, ◌++◌, Option, Some, None, refl, ap, sym, subst, ◌∙◌, append_assoc, arith}
+use Rattle.std.proofs.Common.{◌≡◌, ℕ, ◌<◌, ◌≤◌, List, [], ◌∷◌, ◌++◌, Option, Some, None, refl, ap, sym, subst, ◌∙◌, append_assoc, arith}
 use Rattle.op_base.specs.declared.matcher.Matcher.{Matcher}
-use Rattle.op_base.specs.declared.span.Span.{Span}
 use Rattle.ql_tree.specs.Children.{depth_of}
 use Rattle.ql_tree.specs.Operators.{aggregate_of, sign_of}
-use Rattle.ql_tree.specs.Selecting.{Head, RangeOf, OffsetOf, SelectorOf}
-use Rattle.ql_tree.specs.Spells.{Spelling, is_open, begins_open, Arguments, Atom}
+use Rattle.ql_tree.specs.Selecting.{Head, SelectorOf}
+use Rattle.ql_tree.specs.Spells.{Spelling, Arguments, Atom}
 use Rattle.ql_tree.specs.declared.tree.AggregateOp.{AggregateOp}
 use Rattle.ql_tree.specs.declared.tree.Expr.{Expr}
 use Rattle.ql_tree.specs.declared.tree.Expr.TheVariants as expr
@@ -13,12 +12,13 @@ use Rattle.ql_tree.specs.declared.word.Keyword.{Keyword}
 use Rattle.ql_tree.specs.declared.word.Keyword.TheVariants as keyword
 use Rattle.ql_tree.specs.declared.word.Word.{Word}
 use Rattle.ql_tree.specs.declared.word.Word.TheVariants as word
-use Rattle.ql_parse.specs.Found.{Reader, ◌>>=◌, first, behind}
+use Rattle.ql_parse.specs.Found.{Reader, ◌>>=◌, first}
+use Rattle.ql_parse.specs.FrontWords.{beyond}
 use Rattle.ql_parse.specs.ReadSelectors.{selector}
-use Rattle.ql_parse.specs.ReadTerms.{closed, call, aggregate, name, atom}
-use Rattle.ql_parse.proofs.Readers.{found_is, bind_ok, if_ok}
-use Rattle.ql_parse.proofs.FrontLemmas.{behind_open}
-use Rattle.ql_parse.proofs.SelectorLemmas.{selector_sound, selector_complete}
+use Rattle.ql_parse.specs.ReadTerms.{closed, aggregate, name_at, name, atom}
+use Rattle.ql_parse.proofs.Readers.{found_is, bind_ok}
+use Rattle.ql_parse.proofs.FrontLemmas.{behind_symbol}
+use Rattle.ql_parse.proofs.SelectorLemmas.{before_range, selector_sound, selector_complete}
 use Rattle.ql_parse.proofs.ForwardLemmas.{front_part, back_part}
 use Rattle.ql_parse.proofs.DepthLemmas.{depth-Number, depth-Str, depth-Select}
 use Rattle.ql_parse.proofs.FollowLemmas.{Starts, Starts-append, aggregate_is, Ends, Apart, ends_apart}
@@ -42,18 +42,6 @@ head_starts _ _ _ (Head.nameless ms ts spelled) = Starts.starts word.OpenBrace _
 selector_starts : (e : Expr) (us : List Word) → SelectorOf e us → Starts us
 selector_starts _ _ (SelectorOf.selector name ms r o ts us vs h spelled_r spelled_o) =
     Starts-append ts (us ++ vs) (head_starts name ms ts h)
-
-no_open_in_offset : (o : Option Span) (us rest : List Word) → OffsetOf o us
-    → begins_open rest ≡ false
-    → begins_open (us ++ rest) ≡ false
-no_open_in_offset _ _ rest OffsetOf.none no_open = no_open
-no_open_in_offset _ _ rest (OffsetOf.back text milliseconds) no_open = refl
-no_open_in_offset _ _ rest (OffsetOf.ahead text milliseconds) no_open = refl
-
-no_open_in_range : (r : Option Span) (us rest : List Word) → RangeOf r us → begins_open rest ≡ false
-    → begins_open (us ++ rest) ≡ false
-no_open_in_range _ _ rest RangeOf.none no_open = no_open
-no_open_in_range _ _ rest (RangeOf.given milliseconds above) no_open = refl
 
 aggregate_starts : (w : Word) (op : AggregateOp) (ts : List Word) → aggregate_of w ≡ Some op
     → Starts (w ∷ ts)
@@ -91,22 +79,26 @@ module _ (n : ℕ) (Inside : Spelling) (inside : ℕ → Reader Expr) where
         let s = selector_sound ts x is in
         (s.0, s.1, Atom.selector x.0 s.0 s.2, omega (arith, room, selector_depth x.0 s.0 s.2))
 
+    name_at_sound : (text : List ℕ) (ts : List Word) (o : Option (List Word))
+        (x : Expr × List Word) → 0 < d → beyond word.Open ts ≡ o
+        → name_at n (inside d) d text ts o ≡ Some x
+        → TreeRead d (Atom n Inside) (word.Name keyword.Plain text ∷ ts) x
+    name_at_sound text ts None x room selects is =
+        selected (word.Name keyword.Plain text ∷ ts) x room is
+    name_at_sound text ts (Some us) x room opens is =
+        let c = call_sound n d Inside (inside d) sound text us x is in (
+          word.Name keyword.Plain text ∷ word.Open ∷ c.0,
+          ap (λ vs. word.Name keyword.Plain text ∷ vs)
+              (behind_symbol word.Open ts us opens ∙ ap (λ vs. word.Open ∷ vs) c.1),
+          c.2,
+          c.3,
+        )
+
     name_sound : (text : List ℕ) (ts : List Word) (x : Expr × List Word) → 0 < d
         → name n (inside d) d text ts ≡ Some x
         → TreeRead d (Atom n Inside) (word.Name keyword.Plain text ∷ ts) x
     unfolding name
-    name_sound text ts x room is = elim (if_ok (begins_open ts) _ _ x is) [
-      | inl opens ↦
-          let after = bind_ok (behind is_open ts) (call n (inside d) d text) x opens.1 in
-          let c = call_sound n d Inside (inside d) sound text after.0 x after.2 in (
-            word.Name keyword.Plain text ∷ word.Open ∷ c.0,
-            ap (λ us. word.Name keyword.Plain text ∷ us)
-                (behind_open ts after.0 after.1 ∙ ap (λ us. word.Open ∷ us) c.1),
-            c.2,
-            c.3,
-          )
-      | inr selects ↦ selected (word.Name keyword.Plain text ∷ ts) x room selects.1
-    ]
+    name_sound text ts x room is = name_at_sound text ts (beyond word.Open ts) x room refl is
 
     bracketed_sound : (ts : List Word) (x : Expr × List Word)
         → (inside d ts >>= λ e. closed e.0 e.1) ≡ Some x
@@ -180,10 +172,10 @@ module _ (n : ℕ) (Inside : Spelling) (inside : ℕ → Reader Expr) where
   unfolding atom name
   selector_atom d _ _ rest (SelectorOf.selector _ _ r o _ us vs
       (Head.bare name) spelled_r spelled_o) apart =
-      let closed : begins_open ((us ++ vs) ++ rest) ≡ false =
-      ap begins_open (append_assoc us vs rest)
-      ∙ no_open_in_range r us (vs ++ rest) spelled_r
-      (no_open_in_offset o vs rest spelled_o apart.opens)
+      let closed : beyond word.Open ((us ++ vs) ++ rest) ≡ None =
+      ap (beyond word.Open) (append_assoc us vs rest)
+      ∙ before_range (λ ts. beyond word.Open ts ≡ None) (λ text ts. refl) (λ ts. refl) r o us vs rest
+      spelled_r spelled_o apart.opens
       in
       rw closed refl
   selector_atom d _ _ rest (SelectorOf.selector _ _ r o _ us vs

@@ -8,11 +8,12 @@ use Rattle.ql_tree.specs.declared.tree.Expr.TheVariants as expr
 use Rattle.ql_tree.specs.declared.word.Keyword.TheVariants as keyword
 use Rattle.ql_tree.specs.declared.word.Word.{Word}
 use Rattle.ql_tree.specs.declared.word.Word.TheVariants as word
-use Rattle.ql_parse.specs.Found.{Reader, behind}
-use Rattle.ql_parse.specs.FrontWords.{is_close, is_comma}
+use Rattle.ql_parse.specs.Found.{Reader}
+use Rattle.ql_parse.specs.FrontWords.{beyond}
 use Rattle.ql_parse.specs.ReadTerms.{closed, arguments, call_arguments, call}
-use Rattle.ql_parse.proofs.Readers.{some_is, bind_ok, test_ok, ended_ok, with_front_ok, fitting_ok, fitting_fits, SpelledTo, Sound}
-use Rattle.ql_parse.proofs.FrontLemmas.{behind_close, behind_comma}
+use Rattle.ql_parse.proofs.Readers.{some_is, bind_ok, test_ok, ended_ok, fitting_ok, fitting_fits, SpelledTo, Sound}
+use Rattle.ql_parse.proofs.FrontLemmas.{behind_symbol}
+use Rattle.ql_parse.proofs.ListLemmas.{followed_sound}
 use Rattle.ql_parse.proofs.ForwardLemmas.{Forward, front_part, back_part}
 use Rattle.ql_parse.proofs.DepthLemmas.{depths, depth-Call}
 use Rattle.ql_parse.proofs.FollowLemmas.{Starts, Starts-append, no_close, Ends}
@@ -22,19 +23,11 @@ use Rattle.ql_parse.proofs.LevelLemmas.{SoundTree, CompleteTree, Begins}
 pub closed_ok : {A : Type 0} (y : A) (ts : List Word) (x : A × List Word) → closed y ts ≡ Some x
     → (ts ≡ word.Close ∷ x.1) × (y ≡ x.0)
 closed_ok {A} y ts x is =
-    let b = bind_ok (behind is_close ts) _ x is in
+    let b = bind_ok (beyond word.Close ts) _ x is in
     let same : (y, b.0) ≡ x = some_is {A = A × List Word} (y, b.0) x b.2 in (
-      behind_close ts b.0 b.1 ∙ ap (λ (p : A × List Word). word.Close ∷ p.1) same,
+      behind_symbol word.Close ts b.0 b.1 ∙ ap (λ (p : A × List Word). word.Close ∷ p.1) same,
       ap (λ (p : A × List Word). p.0) same,
     )
-
--- the first item and a comma before what is spelled up to a word
-pub after_comma : (us vs ts ms ns rest : List Word) (v : Word) → ts ≡ us ++ ms
-    → ms ≡ word.Comma ∷ ns → ns ≡ vs ++ (v ∷ rest)
-    → ts ≡ (us ++ (word.Comma ∷ vs)) ++ (v ∷ rest)
-after_comma us vs ts ms ns rest v p q r =
-    p ∙ ap (λ m. us ++ m) (q ∙ ap (λ m. word.Comma ∷ m) r) ∙ sym
-    (append_assoc us (word.Comma ∷ vs) (v ∷ rest))
 
 module _ (n d : ℕ) (Inside : Spelling) (inside : Reader Expr) where
   -- ---- arguments
@@ -47,38 +40,9 @@ module _ (n d : ℕ) (Inside : Spelling) (inside : Reader Expr) where
   arguments_sound sound (suc m) ts x is =
       let e = bind_ok (inside ts) _ x is in
       let s = sound ts e.0 e.1 in
-      let all = with_front_ok e.0.0 _ x e.2 in
-      elim (ended_ok (behind is_close e.0.1) _ all.0 all.1) [
-        | inl at_end ↦
-            subst
-            (SpelledTo word.Close (Arguments Inside) ts)
-            all.2 (
-              s.0,
-              s.1 ∙ ap (λ us. s.0 ++ us) (behind_close e.0.1 all.0.1 at_end.0),
-              subst (λ es. Arguments Inside (e.0.0 ∷ es) s.0) at_end.1
-                  (Arguments.last e.0.0 s.0 s.2),
-            )
-        | inr more ↦
-            let comma = bind_ok (behind is_comma e.0.1) _ all.0 more.1 in
-            let others = arguments_sound sound m comma.0 all.0 comma.2 in
-            subst
-            (SpelledTo word.Close (Arguments Inside) ts)
-            all.2 (
-              s.0 ++ (word.Comma ∷ others.0),
-              after_comma
-                  s.0
-                  others.0
-                  ts
-                  e.0.1
-                  comma.0
-                  all.0.1
-                  word.Close
-                  s.1
-                  (behind_comma e.0.1 comma.0 comma.1)
-                  others.1,
-              Arguments.more e.0.0 all.0.0 s.0 others.0 s.2 others.2,
-            )
-      ]
+      followed_sound (Arguments Inside) word.Close (arguments m inside) ts s.0 e.0 x s.1
+      (Arguments.last e.0.0 s.0 s.2) (λ es us. Arguments.more e.0.0 es s.0 us s.2)
+      (arguments_sound sound m) e.2
 
   arguments_complete : CompleteTree d 5 Inside inside
       → (es : List Expr) (us rest : List Word) (m : ℕ) → Arguments Inside es us → Forward us
@@ -112,10 +76,10 @@ module _ (n d : ℕ) (Inside : Spelling) (inside : Reader Expr) where
 
   call_arguments_sound : SoundTree d Inside inside → Sound Called (call_arguments inside)
   unfolding call_arguments
-  call_arguments_sound sound ts x is = elim (ended_ok (behind is_close ts) _ x is) [
+  call_arguments_sound sound ts x is = elim (ended_ok (beyond word.Close ts) _ x is) [
     | inl at_end ↦ (
       word.Close ∷ [],
-      behind_close ts x.1 at_end.0,
+      behind_symbol word.Close ts x.1 at_end.0,
       subst
           (λ es. Called es (word.Close ∷ [])) at_end.1 Called.empty,
     )

@@ -1,11 +1,11 @@
 -- The reading of label lists and of the clauses that have one: what is read is spelled, and what is
 -- spelled is read.
-use Rattle.std.proofs.Common.{◌≡◌, ◌<◌, inl, inr, ℕ, zero, suc, Bool, true, false, List, [], ◌∷◌, ◌++◌, length, Option, Some, None, nat_lt, refl, ap, sym, subst, ◌∙◌, append_assoc, length-append, arith}
+use Rattle.std.proofs.Common.{◌≡◌, ◌<◌, inl, inr, ℕ, Bool, true, false, List, [], ◌∷◌, ◌++◌, Option, Some, None, nat_lt, refl, ap, sym, ◌∙◌, append_assoc}
 use Rattle.std.proofs.lemmas.Bool.{ltb-true, lt-ltb}
 use Rattle.op_base.specs.Names.{is_label_name}
 use Rattle.ql_tree.specs.Clauses.{Labels, SideOf, MatchingOf, GroupingOf}
 use Rattle.ql_tree.specs.Operators.{matching_of, side_of, grouping_of}
-use Rattle.ql_tree.specs.Spells.{is_open, begins_open, BoolOf}
+use Rattle.ql_tree.specs.Spells.{begins_open, BoolOf}
 use Rattle.ql_tree.specs.declared.tree.Matching.{Matching}
 use Rattle.ql_tree.specs.declared.tree.Side.{Side}
 use Rattle.ql_tree.specs.declared.tree.Grouping.{Grouping}
@@ -13,17 +13,19 @@ use Rattle.ql_tree.specs.declared.word.Keyword.{Keyword}
 use Rattle.ql_tree.specs.declared.word.Keyword.TheVariants as keyword
 use Rattle.ql_tree.specs.declared.word.Word.{Word}
 use Rattle.ql_tree.specs.declared.word.Word.TheVariants as word
-use Rattle.ql_parse.specs.Found.{first, behind}
-use Rattle.ql_parse.specs.FrontWords.{is_close, is_comma, is_bool, label_of}
-use Rattle.ql_parse.specs.ReadClauses.{labels, label_list, side, side_at, matching, matching_at, boolean, boolean_at, grouping, grouping_at}
-use Rattle.ql_parse.proofs.Readers.{found_is, bind_ok, test_ok, if_ok, first_ok, ended_ok, with_front_ok, Spelled, SpelledTo, Sound, joined}
-use Rattle.ql_parse.proofs.FrontLemmas.{behind_open, behind_close, behind_comma, behind_bool, label_is}
+use Rattle.ql_parse.specs.Found.{first}
+use Rattle.ql_parse.specs.FrontWords.{beyond, beyond_keyword, label_of}
+use Rattle.ql_parse.specs.ReadClauses.{label_list, side, side_at, matching, matching_at, boolean, boolean_at, grouping, grouping_at}
+use Rattle.ql_parse.proofs.Readers.{found_is, bind_ok, test_ok, if_ok, first_ok, Spelled, Sound, joined}
+use Rattle.ql_parse.proofs.FrontLemmas.{behind_keyword, label_is}
+use Rattle.ql_parse.proofs.ListLemmas.{Items, Between, enclosed_sound, enclosed_complete}
 
 -- ---- lists of labels
 
-labels_end : (ts : List Word) (x : List (List ℕ) × List Word) → ts ≡ word.Close ∷ x.1 → [] ≡ x.0
-    → SpelledTo word.Close Labels ts x
-labels_end ts x p none = ([], p, subst (λ ls. Labels ls []) none Labels.none)
+-- a word that is a label
+data LabelOf : List ℕ → List Word → Type 0 where
+  name : (k : Keyword) (label : List ℕ) → is_label_name label ≡ true
+      → LabelOf label (word.Name k label ∷ [])
 
 -- the label that stands in front
 pub front_label : (ts : List Word) (x : List ℕ × List Word) → first label_of ts ≡ Some x
@@ -33,93 +35,53 @@ front_label ts x is =
     let l = label_is f.0 x.0 f.2 in
     (l.0, f.1 ∙ ap (λ w. w ∷ x.1) l.1, l.2)
 
-pub labels_sound : (m : ℕ) (ts : List Word) (x : List (List ℕ) × List Word) → labels m ts ≡ Some x
-    → SpelledTo word.Close Labels ts x
-unfolding labels
-labels_sound zero ts x is = cc is
-labels_sound (suc m) ts x is = elim (ended_ok (behind is_close ts) _ x is) [
-  | inl at_end ↦ labels_end ts x (behind_close ts x.1 at_end.0) at_end.1
-  | inr goes_on ↦
-      let one = bind_ok (first label_of ts) _ x goes_on.1 in
-      let front = front_label ts one.0 one.1 in
-      let all = with_front_ok one.0.0 _ x one.2 in
-      elim (ended_ok (behind is_close one.0.1) _ all.0 all.1) [
-        | inl at_end ↦
-            subst
-            (SpelledTo word.Close Labels ts)
-            all.2 (
-              word.Name front.0 one.0.0 ∷ [],
-              front.1 ∙ ap (λ us. word.Name front.0 one.0.0 ∷ us)
-                  (behind_close one.0.1 all.0.1 at_end.0),
-              subst (λ ls. Labels (one.0.0 ∷ ls) (word.Name front.0 one.0.0 ∷ [])) at_end.1
-                  (Labels.last front.0 one.0.0 front.2),
-            )
-        | inr more ↦
-            let comma = bind_ok (behind is_comma one.0.1) _ all.0 more.1 in
-            let others = labels_sound m comma.0 all.0 comma.2 in
-            subst
-            (SpelledTo word.Close Labels ts)
-            all.2 (
-              word.Name front.0 one.0.0 ∷ word.Comma ∷ others.0,
-              front.1
-                  ∙ ap (λ us. word.Name front.0 one.0.0 ∷ us) (behind_comma one.0.1 comma.0 comma.1)
-                  ∙ ap (λ us. word.Name front.0 one.0.0 ∷ word.Comma ∷ us) others.1,
-              Labels.more front.0 one.0.0 all.0.0 others.0 front.2 others.2,
-            )
-      ]
-]
+label_sound : Sound LabelOf (first label_of)
+label_sound ts x is =
+    let l = front_label ts x is in
+    (word.Name l.0 x.0 ∷ [], l.1, LabelOf.name l.0 x.0 l.2)
 
-pub labels_complete : (ls : List (List ℕ)) (us rest : List Word) (m : ℕ) → Labels ls us
-    → length us < m
-    → labels m (us ++ (word.Close ∷ rest)) ≡ Some (ls, rest)
-unfolding labels
-labels_complete _ _ rest zero some less = absurd (omega arith)
-labels_complete _ _ rest (suc m) Labels.none less = refl
-labels_complete _ _ rest (suc m) (Labels.last k label named) less = rw named refl
-labels_complete _ _ rest (suc m) (Labels.more k label ls ts named others) less =
-    let again : labels m (ts ++ (word.Close ∷ rest)) ≡ Some (ls, rest) =
-    labels_complete ls ts rest m others (omega arith)
-    in
-    rw (named, again) refl
+label_complete : (label : List ℕ) (us rest : List Word) → LabelOf label us
+    → first label_of (us ++ rest) ≡ Some (label, rest)
+label_complete _ _ rest (LabelOf.name k label named) = rw named refl
 
--- labels between brackets
-pub data Listed (n : ℕ) : List (List ℕ) → List Word → Type 0 where
-  listed : (ls : List (List ℕ)) (ts : List Word) → 0 < n → Labels ls ts
-      → Listed n ls (word.Open ∷ (ts ++ (word.Close ∷ [])))
+label_begins : (label : List ℕ) (us rest : List Word) → LabelOf label us
+    → beyond word.Close (us ++ rest) ≡ None
+label_begins _ _ rest (LabelOf.name k label named) = refl
 
-pub label_list_sound : (n : ℕ) → Sound (Listed n) (label_list n)
+items_labels : (ls : List (List ℕ)) (us : List Word) → Items LabelOf ls us → Labels ls us
+items_labels _ _ Items.none = Labels.none
+items_labels _ _ (Items.last _ _ (LabelOf.name k label named)) = Labels.last k label named
+items_labels _ _ (Items.more _ ls _ ts (LabelOf.name k label named) others) =
+    Labels.more k label ls ts named (items_labels ls ts others)
+
+labels_items : (ls : List (List ℕ)) (us : List Word) → Labels ls us → Items LabelOf ls us
+labels_items _ _ Labels.none = Items.none
+labels_items _ _ (Labels.last k label named) = Items.last label _ (LabelOf.name k label named)
+labels_items _ _ (Labels.more k label ls ts named others) =
+    Items.more label ls _ ts (LabelOf.name k label named) (labels_items ls ts others)
+
+label_list_sound : (n : ℕ) (ts : List Word) (x : List (List ℕ) × List Word)
+    → label_list n ts ≡ Some x → (0 < n) × Between word.Open word.Close Labels ts x
 unfolding label_list
 label_list_sound n ts x is =
     let room = test_ok (nat_lt 0 n) _ x is in
-    let opened = bind_ok (behind is_open ts) _ x room.1 in
-    let inner = labels_sound (length opened.0) opened.0 x opened.2 in (
-      word.Open ∷ (inner.0 ++ (word.Close ∷ [])),
-      behind_open ts opened.0 opened.1
-          ∙ ap (λ us. word.Open ∷ us) (inner.1 ∙ sym (append_assoc inner.0 (word.Close ∷ []) x.1)),
-      Listed.listed x.0 inner.0 (ltb-true 0 n room.0) inner.2,
-    )
-
-pub label_list_complete : (n : ℕ) (ls : List (List ℕ)) (us rest : List Word) → Listed n ls us
-    → label_list n (us ++ rest) ≡ Some (ls, rest)
-unfolding label_list
-label_list_complete n _ _ rest (Listed.listed ls ts room spelled) =
-    let whole : labels (length (ts ++ (word.Close ∷ rest))) (ts ++ (word.Close ∷ rest)) ≡ Some
-    (ls, rest) =
-    labels_complete ls ts rest _ spelled (omega (arith, length-append ts (word.Close ∷ rest)))
+    let inner = enclosed_sound LabelOf word.Open word.Close (first label_of) label_sound ts x room.1
     in
-    rw (append_assoc ts (word.Close ∷ []) rest, lt-ltb 0 n room) whole
+    (ltb-true 0 n room.0, (inner.0, inner.1, items_labels x.0 inner.0 inner.2))
+
+label_list_complete : (n : ℕ) (ls : List (List ℕ)) (us rest : List Word) → 0 < n → Labels ls us
+    → label_list n ((word.Open ∷ (us ++ (word.Close ∷ []))) ++ rest) ≡ Some (ls, rest)
+unfolding label_list
+label_list_complete n ls us rest room spelled =
+    rw (lt-ltb 0 n room)
+    (enclosed_complete LabelOf word.Open word.Close (first label_of) refl refl refl label_begins
+    label_complete ls us rest (labels_items ls us spelled))
 
 -- ---- `group_left` and `group_right`
 
 -- a clause before what begins with `(` or not
 abbrev pub Sided : ℕ → List Word → Option Side × List Word → Type 0
 Sided n ts x = Spelled (SideOf n (begins_open x.1)) ts x
-
-side_listed : (n : ℕ) (opens : Bool) (w : Word) (left : Bool) (ls : List (List ℕ)) (us : List Word)
-    → side_of w ≡ Some left → Listed n ls us
-    → SideOf n opens (Some (record { left = left; include = ls })) (w ∷ us)
-side_listed n opens w left _ _ is (Listed.listed ls ts room spelled) =
-    SideOf.listed w left ls ts is room spelled
 
 side_at_sound : (n : ℕ) (ts : List Word) (o : Option (Bool × List Word))
     (x : Option Side × List Word) → first side_of ts ≡ o
@@ -135,8 +97,11 @@ side_at_sound n ts (Some v) x some is =
           (Sided n ts)
           (Some (record { left = v.0; include = ls.0.0 }), ls.0.1)
           x
-          ls.2
-          (f.0 ∷ l.0, f.1 ∙ ap (λ us. f.0 ∷ us) l.1, side_listed n _ f.0 v.0 ls.0.0 l.0 f.2 l.2)
+          ls.2 (
+            f.0 ∷ word.Open ∷ (l.1.0 ++ (word.Close ∷ [])),
+            f.1 ∙ ap (λ us. f.0 ∷ us) l.1.1,
+            SideOf.listed f.0 v.0 ls.0.0 l.1.0 f.2 l.0 l.1.2,
+          )
       | inr bare ↦
           found_is
           (Sided n ts)
@@ -161,8 +126,7 @@ side_complete n opens _ _ rest (SideOf.bare w left is no_open) same no_side =
     rw (is, closed) refl
 side_complete n opens _ _ rest (SideOf.listed w left ls ts is room spelled) same no_side =
     let list : label_list n ((word.Open ∷ (ts ++ (word.Close ∷ []))) ++ rest) ≡ Some (ls, rest) =
-    label_list_complete n ls (word.Open ∷ (ts ++ (word.Close ∷ []))) rest
-    (Listed.listed ls ts room spelled)
+    label_list_complete n ls ts rest room spelled
     in
     rw (is, list) refl
 
@@ -170,14 +134,6 @@ side_complete n opens _ _ rest (SideOf.listed w left ls ts is room spelled) same
 
 abbrev pub Matched : ℕ → List Word → Option Matching × List Word → Type 0
 Matched n ts x = Spelled (MatchingOf n (begins_open x.1)) ts x
-
-matching_listed : (n : ℕ) (opens : Bool) (w : Word) (on : Bool) (ls : List (List ℕ))
-    (s : Option Side) (us vs : List Word)
-    → matching_of w ≡ Some on → Listed n ls us → SideOf n opens s vs
-    → MatchingOf n opens (Some (record { on = on; labels = ls; side = s })) (w ∷ (us ++ vs))
-matching_listed n opens w on _ s _ vs is (Listed.listed ls ts room spelled) side =
-    rw (append_assoc ts (word.Close ∷ []) vs)
-    (MatchingOf.given w on ls s ts vs is room spelled side)
 
 matching_at_sound : (n : ℕ) (ts : List Word) (o : Option (Bool × List Word))
     (x : Option Matching × List Word)
@@ -195,9 +151,12 @@ matching_at_sound n ts (Some v) x some is =
     (Some (record { on = v.0; labels = ls.0.0; side = s.0.0 }), s.0.1)
     x
     s.2 (
-      f.0 ∷ (l.0 ++ r.0),
-      f.1 ∙ ap (λ us. f.0 ∷ us) (joined l.0 r.0 v.1 ls.0.1 s.0.1 l.1 r.1),
-      matching_listed n _ f.0 v.0 ls.0.0 s.0.0 l.0 r.0 f.2 l.2 r.2,
+      f.0 ∷ word.Open ∷ (l.1.0 ++ (word.Close ∷ r.0)),
+      f.1
+          ∙ ap (λ us. f.0 ∷ us)
+          (joined (word.Open ∷ (l.1.0 ++ (word.Close ∷ []))) r.0 v.1 ls.0.1 s.0.1 l.1.1 r.1)
+          ∙ ap (λ us. f.0 ∷ word.Open ∷ (us ++ s.0.1)) (append_assoc l.1.0 (word.Close ∷ []) r.0),
+      MatchingOf.given f.0 v.0 ls.0.0 s.0.0 l.1.0 r.0 f.2 l.0 l.1.2 r.2,
     )
 
 pub matching_sound : (n : ℕ) (ts : List Word) (x : Option Matching × List Word)
@@ -219,8 +178,7 @@ matching_complete n opens _ _ rest (MatchingOf.given w on ls s ts us is room spe
     no_side no_match =
     let list : label_list n ((word.Open ∷ (ts ++ (word.Close ∷ []))) ++ (us ++ rest)) ≡ Some
     (ls, us ++ rest) =
-    label_list_complete n ls (word.Open ∷ (ts ++ (word.Close ∷ []))) (us ++ rest)
-    (Listed.listed ls ts room spelled)
+    label_list_complete n ls ts (us ++ rest) room spelled
     in
     let then : side n (us ++ rest) ≡ Some (s, rest) =
     side_complete n opens s us rest side_is same no_side
@@ -229,22 +187,22 @@ matching_complete n opens _ _ rest (MatchingOf.given w on ls s ts us is room spe
 
 -- ---- `bool`
 
-boolean_at_sound : (ts : List Word) (o : Option (List Word)) → behind is_bool ts ≡ o
+boolean_at_sound : (ts : List Word) (o : Option (List Word)) → beyond_keyword keyword.Bool ts ≡ o
     → (us : List Word) × (ts ≡ us ++ (boolean_at ts o).1) × BoolOf true (boolean_at ts o).0 us
 boolean_at_sound ts None none = ([], refl, BoolOf.none)
 boolean_at_sound ts (Some rest) some =
-    let b = behind_bool ts rest some in
+    let b = behind_keyword keyword.Bool ts rest some in
     (word.Name keyword.Bool b.0 ∷ [], b.1, BoolOf.given b.0 refl)
 
 pub boolean_sound : (comparison : Bool) (ts : List Word)
     → (us : List Word) × (ts ≡ us ++ (boolean comparison ts).1) × BoolOf comparison
     (boolean comparison ts).0 us
 unfolding boolean
-boolean_sound true ts = boolean_at_sound ts (behind is_bool ts) refl
+boolean_sound true ts = boolean_at_sound ts (beyond_keyword keyword.Bool ts) refl
 boolean_sound false ts = ([], refl, BoolOf.none)
 
 pub boolean_complete : (comparison b : Bool) (us rest : List Word) → BoolOf comparison b us
-    → behind is_bool rest ≡ None
+    → beyond_keyword keyword.Bool rest ≡ None
     → boolean comparison (us ++ rest) ≡ (b, rest)
 unfolding boolean
 boolean_complete true _ _ rest BoolOf.none no_bool = rw no_bool refl
@@ -257,12 +215,6 @@ boolean_complete comparison _ _ rest (BoolOf.given text compares) no_bool = rw c
 pub data GroupingIf (n : ℕ) : Option Grouping → List Word → Type 0 where
   none : GroupingIf n None []
   given : (g : Grouping) (us : List Word) → GroupingOf n g us → GroupingIf n (Some g) us
-
-grouping_listed : (n : ℕ) (w : Word) (by : Bool) (ls : List (List ℕ)) (us : List Word)
-    → grouping_of w ≡ Some by → Listed n ls us
-    → GroupingOf n (record { by = by; labels = ls }) (w ∷ us)
-grouping_listed n w by _ _ is (Listed.listed ls ts room spelled) =
-    GroupingOf.given w by ls ts is room spelled
 
 grouping_at_sound : (n : ℕ) (ts : List Word) (o : Option (Bool × List Word))
     (x : Option Grouping × List Word)
@@ -278,9 +230,9 @@ grouping_at_sound n ts (Some v) x some is =
     (Some (record { by = v.0; labels = ls.0.0 }), ls.0.1)
     x
     ls.2 (
-      f.0 ∷ l.0,
-      f.1 ∙ ap (λ us. f.0 ∷ us) l.1,
-      GroupingIf.given _ (f.0 ∷ l.0) (grouping_listed n f.0 v.0 ls.0.0 l.0 f.2 l.2),
+      f.0 ∷ word.Open ∷ (l.1.0 ++ (word.Close ∷ [])),
+      f.1 ∙ ap (λ us. f.0 ∷ us) l.1.1,
+      GroupingIf.given _ _ (GroupingOf.given f.0 v.0 ls.0.0 l.1.0 f.2 l.0 l.1.2),
     )
 
 pub grouping_sound : (n : ℕ) → Sound (GroupingIf n) (grouping n)
@@ -297,7 +249,6 @@ pub grouping_complete : (n : ℕ) (g : Grouping) (us rest : List Word) → Group
 unfolding grouping
 grouping_complete n _ _ rest (GroupingOf.given w by ls ts is room spelled) =
     let list : label_list n ((word.Open ∷ (ts ++ (word.Close ∷ []))) ++ rest) ≡ Some (ls, rest) =
-    label_list_complete n ls (word.Open ∷ (ts ++ (word.Close ∷ []))) rest
-    (Listed.listed ls ts room spelled)
+    label_list_complete n ls ts rest room spelled
     in
     rw (is, list) refl

@@ -7,31 +7,32 @@ use Rattle.std.specs.List.{list_all}
 use Rattle.std.specs.Str.{IsUtf8}
 use Rattle.ql_tree.specs.Strings.{is_quote}
 
+-- such a byte stands in its place
+small_byte : (before : List ℕ) (b : ℕ) (rest : List ℕ) → b < 128
+    → (length before < length (before ++ (b ∷ rest)))
+    × (get_or (before ++ (b ∷ rest)) (length before) 0 < 128)
+small_byte before b rest small =
+    let at : get_or (before ++ (b ∷ rest)) (length before) 0
+    ≡ b = get_or-append_seam before b rest 0 in
+    (omega (arith, length-append before (b ∷ rest)), omega (arith, at))
+
 -- what stands before such a byte is a text
 pub before_byte : (before : List ℕ) (b : ℕ) (rest : List ℕ) → IsUtf8 (before ++ (b ∷ rest))
     → b < 128 → IsUtf8 before
 before_byte before b rest utf8 small =
-    let inside : length before < length (before ++ (b ∷ rest)) = omega
-    (arith, length-append before (b ∷ rest)) in
-    let at : get_or (before ++ (b ∷ rest)) (length before) 0
-    ≡ b = get_or-append_seam before b rest 0 in
-    let bound : get_or (before ++ (b ∷ rest)) (length before) 0 < 128 = omega (arith, at) in
+    let is = small_byte before b rest small in
     subst (λ text. IsUtf8 text) (take-append_seam before (b ∷ rest))
     (IsUtf8-take (before ++ (b ∷ rest)) (length before) utf8
-    (IsCharBoundary-before_ascii (before ++ (b ∷ rest)) (length before) inside bound))
+    (IsCharBoundary-before_ascii (before ++ (b ∷ rest)) (length before) is.0 is.1))
 
 -- what stands behind it is one
 pub behind_byte : (before : List ℕ) (b : ℕ) (rest : List ℕ) → IsUtf8 (before ++ (b ∷ rest))
     → b < 128 → IsUtf8 rest
 behind_byte before b rest utf8 small =
-    let inside : length before < length (before ++ (b ∷ rest)) = omega
-    (arith, length-append before (b ∷ rest)) in
-    let at : get_or (before ++ (b ∷ rest)) (length before) 0
-    ≡ b = get_or-append_seam before b rest 0 in
-    let bound : get_or (before ++ (b ∷ rest)) (length before) 0 < 128 = omega (arith, at) in
+    let is = small_byte before b rest small in
     subst (λ text. IsUtf8 text) (drop-append-add before (b ∷ rest) 1)
     (IsUtf8-drop (before ++ (b ∷ rest)) (length before + 1) utf8
-    (IsCharBoundary-after_ascii (before ++ (b ∷ rest)) (length before) utf8 inside bound))
+    (IsCharBoundary-after_ascii (before ++ (b ∷ rest)) (length before) utf8 is.0 is.1))
 
 -- what stands behind bytes that pass a test of such bytes is one
 pub behind_passing : (p : ℕ → Bool) → ((b : ℕ) → p b ≡ true → b < 128) → (n : ℕ) (text : List ℕ)

@@ -11,8 +11,8 @@ use Rattle.ql_tree.specs.declared.word.Keyword.{Keyword}
 use Rattle.ql_tree.specs.declared.word.Keyword.TheVariants as keyword
 use Rattle.ql_tree.specs.declared.word.Word.{Word}
 use Rattle.ql_tree.specs.declared.word.Word.TheVariants as word
-use Rattle.ql_parse.specs.Found.{first, behind}
-use Rattle.ql_parse.specs.FrontWords.{is_close, is_open_brace, is_open_square, is_offset, is_bool, of_level, operator_at}
+use Rattle.ql_parse.specs.Found.{first}
+use Rattle.ql_parse.specs.FrontWords.{beyond, is_symbol, beyond_keyword, is_keyword, of_level, operator_at}
 use Rattle.ql_parse.proofs.Readers.{some_is, bind_ok, test_ok}
 
 -- ---- what an operand begins with
@@ -46,8 +46,8 @@ opens-append _ vs (Starts.starts w ts is) = refl
 record Begun (w : Word) : Type 0 where
   side : side_of w ≡ None
   matching : matching_of w ≡ None
-  boolean : is_bool w ≡ false
-  close : is_close w ≡ false
+  boolean : is_keyword keyword.Bool w ≡ false
+  close : is_symbol word.Close w ≡ false
 
 keyword_begun : (k : Keyword) (text : List ℕ) → keyword_begins k ≡ true → Begun (word.Name k text)
 unfolding side_of matching_of
@@ -69,18 +69,18 @@ no_side _ (Starts.starts w ts is) = rw (begun w is).side refl
 pub no_matching : (us : List Word) → Starts us → first matching_of us ≡ None
 no_matching _ (Starts.starts w ts is) = rw (begun w is).matching refl
 
-pub no_bool : (us : List Word) → Starts us → behind is_bool us ≡ None
+pub no_bool : (us : List Word) → Starts us → beyond_keyword keyword.Bool us ≡ None
 no_bool _ (Starts.starts w ts is) = rw (begun w is).boolean refl
 
-pub no_close : (us : List Word) → Starts us → behind is_close us ≡ None
+pub no_close : (us : List Word) → Starts us → beyond word.Close us ≡ None
 no_close _ (Starts.starts w ts is) = rw (begun w is).close refl
 
 keyword_no_bool : (k : Keyword) (text : List ℕ) (on : Bool) → keyword_matching k ≡ Some on
-    → is_bool (word.Name k text) ≡ false
+    → is_keyword keyword.Bool (word.Name k text) ≡ false
 keyword_no_bool keyword.Bool text on is = cc is
 keyword_no_bool k text on is = refl
 
-matching_no_bool : (w : Word) (on : Bool) → matching_of w ≡ Some on → is_bool w ≡ false
+matching_no_bool : (w : Word) (on : Bool) → matching_of w ≡ Some on → is_keyword keyword.Bool w ≡ false
 unfolding matching_of
 matching_no_bool (word.Name k text) on is = keyword_no_bool k text on is
 matching_no_bool w on is = refl
@@ -88,7 +88,7 @@ matching_no_bool w on is = refl
 -- `bool` stands before a matching clause, if at all
 pub no_bool_before : (n : ℕ) (opens : Bool) (m : Option Matching) (ms us : List Word)
     → MatchingOf n opens m ms → Starts us
-    → behind is_bool (ms ++ us) ≡ None
+    → beyond_keyword keyword.Bool (ms ++ us) ≡ None
 no_bool_before n opens _ _ us MatchingOf.none begin = no_bool us begin
 no_bool_before n opens _ _ us (MatchingOf.given w on ls s ts vs is room spelled side) begin =
     rw (matching_no_bool w on is) refl
@@ -131,10 +131,10 @@ tighter k _ (Ends.operator w op ts is looser) = Ends.operator w op ts is (omega 
 -- nothing that belongs to an atom stands there
 pub record Apart (ts : List Word) : Type 0 where
   pub grouping : first grouping_of ts ≡ None
-  pub opens : begins_open ts ≡ false
-  pub brace : behind is_open_brace ts ≡ None
-  pub square : behind is_open_square ts ≡ None
-  pub offset : behind is_offset ts ≡ None
+  pub opens : beyond word.Open ts ≡ None
+  pub brace : beyond word.OpenBrace ts ≡ None
+  pub square : beyond word.OpenSquare ts ≡ None
+  pub offset : beyond_keyword keyword.Offset ts ≡ None
 
 keyword_apart : (k : Keyword) (text : List ℕ) (op : BinaryOp) (ts : List Word)
     → keyword_operator k ≡ Some op

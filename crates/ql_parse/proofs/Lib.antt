@@ -11,6 +11,7 @@ pub mod ForwardLemmas
 pub mod FrontLemmas
 mod KeywordLemmas
 pub mod LevelLemmas
+pub mod ListLemmas
 mod ListSteps
 mod NodeDepths
 mod ParseLemmas

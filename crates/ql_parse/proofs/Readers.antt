@@ -44,14 +44,6 @@ behind_ok is_it (w ∷ ts) rest is =
     let t = test_ok (is_it w) (Some ts) rest is in
     (w, ap (λ us. w ∷ us) (some_is ts rest t.1), t.0)
 
--- the word that alone passes the test stands in front
-pub behind_word : (is_it : Word → Bool) (v : Word) → ((w : Word) → is_it w ≡ true → w ≡ v)
-    → (ts rest : List Word)
-    → behind is_it ts ≡ Some rest → ts ≡ v ∷ rest
-behind_word is_it v alone ts rest is =
-    let b = behind_ok is_it ts rest is in
-    b.1 ∙ ap (λ w. w ∷ rest) (alone b.0 b.2)
-
 pub ended_ok : {A : Type 0} (o : Option (List Word)) (other : Found (List A))
     (x : List A × List Word) → ended o other ≡ Some x
     → ((o ≡ Some x.1) × ([] ≡ x.0)) ⊎ ((o ≡ None) × (other ≡ Some x))

@@ -1,5 +1,5 @@
 -- The reading of selectors: what is read is spelled, and what is spelled is read.
-use Rattle.std.proofs.Common.{◌≡◌, ◌<◌, inl, inr, ℕ, zero, suc, ℤ, pos, neg_ℤ, ◌<ℤ◌, int_lt, int_le, T, Bool, true, false, List, [], ◌∷◌, ◌++◌, length, Option, Some, None, refl, ap, sym, subst, ◌∙◌, append_assoc, length-append, arith}
+use Rattle.std.proofs.Common.{◌≡◌, inl, inr, ℕ, ℤ, pos, neg_ℤ, ◌<ℤ◌, int_lt, int_le, T, Bool, true, false, List, [], ◌∷◌, ◌++◌, Option, Some, None, refl, ap, sym, subst, ◌∙◌, append_assoc}
 use Rattle.std.specs.Int.Signed.{lt_z_yes}
 use Rattle.std.specs.List.{list_any}
 use Rattle.op_base.specs.declared.matcher.Matcher.{Matcher}
@@ -11,12 +11,13 @@ use Rattle.ql_tree.specs.declared.tree.Expr.TheVariants as expr
 use Rattle.ql_tree.specs.declared.word.Keyword.TheVariants as keyword
 use Rattle.ql_tree.specs.declared.word.Word.{Word}
 use Rattle.ql_tree.specs.declared.word.Word.TheVariants as word
-use Rattle.ql_parse.specs.Found.{first, behind}
-use Rattle.ql_parse.specs.FrontWords.{is_comma, is_open_brace, is_close_brace, is_open_square, is_close_square, is_minus, is_offset, label_of, plain_of, quoted_of, length_of}
-use Rattle.ql_parse.specs.ReadSelectors.{matcher, matchers, braces, Headed, head_behind, head_at, head, range_at, range, offset_by, offset_at, offset, selector}
-use Rattle.ql_parse.proofs.Readers.{found_is, bind_ok, test_ok, if_ok, first_ok, ended_ok, with_front_ok, Spelled, SpelledTo, Sound, joined}
-use Rattle.ql_parse.proofs.FrontLemmas.{behind_comma, behind_open_brace, behind_close_brace, behind_open_square, behind_close_square, behind_minus, behind_offset, plain_is, quoted_is, length_is}
+use Rattle.ql_parse.specs.Found.{first}
+use Rattle.ql_parse.specs.FrontWords.{beyond, beyond_keyword, label_of, plain_of, quoted_of, length_of}
+use Rattle.ql_parse.specs.ReadSelectors.{matcher, braces, Headed, head_behind, head_at, head, range_at, range, offset_by, offset_at, offset, selector}
+use Rattle.ql_parse.proofs.Readers.{found_is, bind_ok, test_ok, if_ok, first_ok, Spelled, Sound, joined}
+use Rattle.ql_parse.proofs.FrontLemmas.{behind_symbol, behind_keyword, plain_is, quoted_is, length_is}
 use Rattle.ql_parse.proofs.ForwardLemmas.{Forward, back_part}
+use Rattle.ql_parse.proofs.ListLemmas.{Items, Between, enclosed_sound, enclosed_complete}
 use Rattle.ql_parse.proofs.ClauseLemmas.{front_label}
 
 -- ---- matchers
@@ -50,113 +51,40 @@ matcher_complete _ _ rest (MatcherOf.matcher k label value w op label_named is) 
     rw (label_named, is) refl
 
 matcher_begins : (m : Matcher) (us rest : List Word) → MatcherOf m us
-    → behind is_close_brace (us ++ rest) ≡ None
+    → beyond word.CloseBrace (us ++ rest) ≡ None
 matcher_begins _ _ rest (MatcherOf.matcher k label value w op label_named is) = refl
 
-matchers_end : (ts : List Word) (x : List Matcher × List Word) → ts ≡ word.CloseBrace ∷ x.1
-    → [] ≡ x.0
-    → SpelledTo word.CloseBrace Matchers ts x
-matchers_end ts x p no_more = ([], p, subst (λ ms. Matchers ms []) no_more Matchers.none)
+items_matchers : (ms : List Matcher) (us : List Word) → Items MatcherOf ms us → Matchers ms us
+items_matchers _ _ Items.none = Matchers.none
+items_matchers _ _ (Items.last one ts spelled) = Matchers.last one ts spelled
+items_matchers _ _ (Items.more one ms ts us spelled others) =
+    Matchers.more one ms ts us spelled (items_matchers ms us others)
 
-matchers_sound : (m : ℕ) (ts : List Word) (x : List Matcher × List Word) → matchers m ts ≡ Some x
-    → SpelledTo word.CloseBrace Matchers ts x
-unfolding matchers
-matchers_sound zero ts x is = cc is
-matchers_sound (suc m) ts x is = elim (ended_ok (behind is_close_brace ts) _ x is) [
-  | inl at_end ↦ matchers_end ts x (behind_close_brace ts x.1 at_end.0) at_end.1
-  | inr goes_on ↦
-      let one = bind_ok (matcher ts) _ x goes_on.1 in
-      let front = matcher_sound ts one.0 one.1 in
-      let all = with_front_ok one.0.0 _ x one.2 in
-      elim (ended_ok (behind is_close_brace one.0.1) _ all.0 all.1) [
-        | inl at_end ↦
-            subst
-            (SpelledTo word.CloseBrace Matchers ts)
-            all.2 (
-              front.0,
-              front.1 ∙ ap (λ us. front.0 ++ us) (behind_close_brace one.0.1 all.0.1 at_end.0),
-              subst (λ ms. Matchers (one.0.0 ∷ ms) front.0) at_end.1
-                  (Matchers.last one.0.0 front.0 front.2),
-            )
-        | inr more ↦
-            let comma = bind_ok (behind is_comma one.0.1) _ all.0 more.1 in
-            let others = matchers_sound m comma.0 all.0 comma.2 in
-            subst
-            (SpelledTo word.CloseBrace Matchers ts)
-            all.2 (
-              front.0 ++ (word.Comma ∷ others.0),
-              front.1
-                  ∙ ap (λ us. front.0 ++ us)
-                  (behind_comma one.0.1 comma.0 comma.1 ∙ ap (λ us. word.Comma ∷ us) others.1)
-                  ∙ sym (append_assoc front.0 (word.Comma ∷ others.0) (word.CloseBrace ∷ all.0.1)),
-              Matchers.more one.0.0 all.0.0 front.0 others.0 front.2 others.2,
-            )
-      ]
-]
+matchers_items : (ms : List Matcher) (us : List Word) → Matchers ms us → Items MatcherOf ms us
+matchers_items _ _ Matchers.none = Items.none
+matchers_items _ _ (Matchers.last one ts spelled) = Items.last one ts spelled
+matchers_items _ _ (Matchers.more one ms ts us spelled others) =
+    Items.more one ms ts us spelled (matchers_items ms us others)
 
-matchers_complete : (ms : List Matcher) (us rest : List Word) (m : ℕ) → Matchers ms us
-    → length us < m
-    → matchers m (us ++ (word.CloseBrace ∷ rest)) ≡ Some (ms, rest)
-unfolding matchers
-matchers_complete _ _ rest zero some less = absurd (omega arith)
-matchers_complete _ _ rest (suc m) Matchers.none less = refl
-matchers_complete _ _ rest (suc m) (Matchers.last one ts spelled) less =
-    let begins : behind is_close_brace (ts ++ (word.CloseBrace ∷ rest)) ≡ None =
-    matcher_begins one ts _ spelled
-    in
-    let found : matcher (ts ++ (word.CloseBrace ∷ rest)) ≡ Some (one, word.CloseBrace ∷ rest) =
-    matcher_complete one ts _ spelled
-    in
-    rw (begins, found) refl
-matchers_complete _ _ rest (suc m) (Matchers.more one ms ts us spelled others) less =
-    let after = word.Comma ∷ (us ++ (word.CloseBrace ∷ rest)) in
-    let again : matchers m (us ++ (word.CloseBrace ∷ rest)) ≡ Some (ms, rest) =
-    matchers_complete ms us rest m others (omega (arith, length-append ts (word.Comma ∷ us)))
-    in
-    let begins : behind is_close_brace (ts ++ after) ≡ None = matcher_begins one ts after spelled in
-    let found : matcher (ts ++ after) ≡ Some (one, after) = matcher_complete one ts after spelled in
-    rw (append_assoc ts (word.Comma ∷ us) (word.CloseBrace ∷ rest), begins, found, again) refl
-
--- matchers between braces
-data Braced : List Matcher → List Word → Type 0 where
-  braced : (ms : List Matcher) (ts : List Word) → Matchers ms ts
-      → Braced ms (word.OpenBrace ∷ (ts ++ (word.CloseBrace ∷ [])))
-
-braces_sound : Sound Braced braces
+braces_sound : (ts : List Word) (x : List Matcher × List Word) → braces ts ≡ Some x
+    → Between word.OpenBrace word.CloseBrace Matchers ts x
 unfolding braces
 braces_sound ts x is =
-    let opened = bind_ok (behind is_open_brace ts) _ x is in
-    let inner = matchers_sound (length opened.0) opened.0 x opened.2 in (
-      word.OpenBrace ∷ (inner.0 ++ (word.CloseBrace ∷ [])),
-      behind_open_brace ts opened.0 opened.1
-          ∙ ap (λ us. word.OpenBrace ∷ us)
-          (inner.1 ∙ sym (append_assoc inner.0 (word.CloseBrace ∷ []) x.1)),
-      Braced.braced x.0 inner.0 inner.2,
-    )
+    let inner = enclosed_sound MatcherOf word.OpenBrace word.CloseBrace matcher matcher_sound ts x is
+    in
+    (inner.0, inner.1, items_matchers x.0 inner.0 inner.2)
 
 braces_complete : (ms : List Matcher) (ts rest : List Word) → Matchers ms ts
     → braces ((word.OpenBrace ∷ (ts ++ (word.CloseBrace ∷ []))) ++ rest) ≡ Some (ms, rest)
 unfolding braces
 braces_complete ms ts rest spelled =
-    let whole : matchers (length (ts ++ (word.CloseBrace ∷ rest))) (ts ++ (word.CloseBrace ∷ rest))
-    ≡ Some (ms, rest) =
-    matchers_complete ms ts rest _ spelled
-    (omega (arith, length-append ts (word.CloseBrace ∷ rest)))
-    in
-    rw (append_assoc ts (word.CloseBrace ∷ []) rest) whole
+    enclosed_complete MatcherOf word.OpenBrace word.CloseBrace matcher refl refl refl matcher_begins
+    matcher_complete ms ts rest (matchers_items ms ts spelled)
 
 -- ---- heads
 
 abbrev HeadOf : Headed → List Word → Type 0
 HeadOf h = Head h.0 h.1
-
-nameless_braced : (ms : List Matcher) (us : List Word) → Braced ms us → Head None ms us
-nameless_braced _ _ (Braced.braced ms ts spelled) = Head.nameless ms ts spelled
-
-named_braced : (name : List ℕ) (ms : List Matcher) (us : List Word) → list_any is_on_name ms ≡ false
-    → Braced ms us
-    → Head (Some name) ms (word.Name keyword.Plain name ∷ us)
-named_braced name _ _ apart (Braced.braced ms ts spelled) = Head.named name ms ts apart spelled
 
 head_behind_sound : (name : List ℕ) (us : List Word) (o : Option (List Word))
     (x : Headed × List Word)
@@ -179,9 +107,9 @@ head_behind_sound name us (Some vs) x is =
           ((Some name, ms.0.0), ms.0.1)
           x
           apart.1 (
-            word.Name keyword.Plain name ∷ b.0,
+            word.Name keyword.Plain name ∷ word.OpenBrace ∷ (b.0 ++ (word.CloseBrace ∷ [])),
             ap (λ vs. word.Name keyword.Plain name ∷ vs) b.1,
-            named_braced name ms.0.0 b.0 apart.0 b.2,
+            Head.named name ms.0.0 b.0 apart.0 b.2,
           )
     ]
 
@@ -192,13 +120,13 @@ head_at_sound ts None x no_name is =
     let ms = bind_ok (braces ts) _ x is in
     let b = braces_sound ts ms.0 ms.1 in
     found_is (Spelled HeadOf ts) ((None, ms.0.0), ms.0.1) x ms.2
-    (b.0, b.1, nameless_braced ms.0.0 b.0 b.2)
+    (word.OpenBrace ∷ (b.0 ++ (word.CloseBrace ∷ [])), b.1, Head.nameless ms.0.0 b.0 b.2)
 head_at_sound ts (Some v) x some is =
     let f = first_ok plain_of ts v some in
     let same : ts ≡ word.Name keyword.Plain v.0 ∷ v.1 =
     f.1 ∙ ap (λ w. w ∷ v.1) (plain_is f.0 v.0 f.2)
     in
-    let h = head_behind_sound v.0 v.1 (behind is_open_brace v.1) x is in
+    let h = head_behind_sound v.0 v.1 (beyond word.OpenBrace v.1) x is in
     (h.0, same ∙ h.1, h.2)
 
 head_sound : Sound HeadOf head
@@ -206,7 +134,7 @@ unfolding head
 head_sound ts x is = head_at_sound ts (first plain_of ts) x refl is
 
 head_complete : (name : Option (List ℕ)) (ms : List Matcher) (us rest : List Word) → Head name ms us
-    → behind is_open_brace rest ≡ None → head (us ++ rest) ≡ Some ((name, ms), rest)
+    → beyond word.OpenBrace rest ≡ None → head (us ++ rest) ≡ Some ((name, ms), rest)
 unfolding head
 head_complete _ _ _ rest (Head.bare name) no_brace = rw no_brace refl
 head_complete _ _ _ rest (Head.named name ms ts apart spelled) no_brace =
@@ -234,13 +162,13 @@ front_length ts x is =
     f.1 ∙ ap (λ w. w ∷ x.1) (length_is f.0 x.0 f.2)
 
 range_at_sound : (ts : List Word) (o : Option (List Word)) (x : Option Span × List Word)
-    → behind is_open_square ts ≡ o
+    → beyond word.OpenSquare ts ≡ o
     → range_at ts o ≡ Some x → Spelled RangeOf ts x
 range_at_sound ts None x no_range is =
     found_is (Spelled RangeOf ts) (None, ts) x is ([], refl, RangeOf.none)
 range_at_sound ts (Some us) x some is =
     let span = bind_ok (first length_of us) _ x is in
-    let close = bind_ok (behind is_close_square span.0.1) _ x span.2 in
+    let close = bind_ok (beyond word.CloseSquare span.0.1) _ x span.2 in
     let above = test_ok (int_lt (pos 0) span.0.0.0) _ x close.2 in
     found_is
     (Spelled RangeOf ts)
@@ -248,19 +176,19 @@ range_at_sound ts (Some us) x some is =
     x
     above.1 (
       word.OpenSquare ∷ word.Duration span.0.0 ∷ word.CloseSquare ∷ [],
-      behind_open_square ts us some
+      behind_symbol word.OpenSquare ts us some
           ∙ ap (λ vs. word.OpenSquare ∷ vs) (front_length us span.0 span.1)
           ∙ ap (λ vs. word.OpenSquare ∷ word.Duration span.0.0 ∷ vs)
-          (behind_close_square span.0.1 close.0 close.1),
+          (behind_symbol word.CloseSquare span.0.1 close.0 close.1),
       RangeOf.given span.0.0.0 (int_lt_ok (pos 0) span.0.0.0 above.0),
     )
 
 range_sound : Sound RangeOf range
 unfolding range
-range_sound ts x is = range_at_sound ts (behind is_open_square ts) x refl is
+range_sound ts x is = range_at_sound ts (beyond word.OpenSquare ts) x refl is
 
 range_complete : (r : Option Span) (us rest : List Word) → RangeOf r us
-    → behind is_open_square rest ≡ None
+    → beyond word.OpenSquare rest ≡ None
     → range (us ++ rest) ≡ Some (r, rest)
 unfolding range
 range_complete _ _ rest RangeOf.none no_square = rw no_square refl
@@ -268,7 +196,7 @@ range_complete _ _ rest (RangeOf.given milliseconds above) no_square =
     rw (int_lt_true (pos 0) milliseconds above) refl
 
 offset_by_sound : (text : List ℕ) (ts : List Word) (o : Option (List Word))
-    (x : Option Span × List Word) → behind is_minus ts ≡ o
+    (x : Option Span × List Word) → beyond word.Minus ts ≡ o
     → offset_by ts o ≡ Some x → Spelled OffsetOf (word.Name keyword.Offset text ∷ ts) x
 offset_by_sound text ts None x no_minus is =
     let span = bind_ok (first length_of ts) _ x is in
@@ -290,28 +218,28 @@ offset_by_sound text ts (Some us) x some is =
     x
     forward.1 (
       word.Name keyword.Offset text ∷ word.Minus ∷ word.Duration span.0.0 ∷ [],
-      ap (λ us. word.Name keyword.Offset text ∷ us) (behind_minus ts us some)
+      ap (λ us. word.Name keyword.Offset text ∷ us) (behind_symbol word.Minus ts us some)
           ∙ ap (λ us. word.Name keyword.Offset text ∷ word.Minus ∷ us)
           (front_length us span.0 span.1),
       OffsetOf.ahead text span.0.0.0,
     )
 
 offset_at_sound : (ts : List Word) (o : Option (List Word)) (x : Option Span × List Word)
-    → behind is_offset ts ≡ o
+    → beyond_keyword keyword.Offset ts ≡ o
     → offset_at ts o ≡ Some x → Spelled OffsetOf ts x
 offset_at_sound ts None x no_offset is =
     found_is (Spelled OffsetOf ts) (None, ts) x is ([], refl, OffsetOf.none)
 offset_at_sound ts (Some us) x some is =
-    let b = behind_offset ts us some in
-    let o = offset_by_sound b.0 us (behind is_minus us) x refl is in
+    let b = behind_keyword keyword.Offset ts us some in
+    let o = offset_by_sound b.0 us (beyond word.Minus us) x refl is in
     (o.0, b.1 ∙ o.1, o.2)
 
 offset_sound : Sound OffsetOf offset
 unfolding offset
-offset_sound ts x is = offset_at_sound ts (behind is_offset ts) x refl is
+offset_sound ts x is = offset_at_sound ts (beyond_keyword keyword.Offset ts) x refl is
 
 offset_complete : (o : Option Span) (us rest : List Word) → OffsetOf o us → Forward us
-    → behind is_offset rest ≡ None
+    → beyond_keyword keyword.Offset rest ≡ None
     → offset (us ++ rest) ≡ Some (o, rest)
 unfolding offset
 offset_complete _ _ rest OffsetOf.none forward no_offset = rw no_offset refl
@@ -321,25 +249,20 @@ offset_complete _ _ rest (OffsetOf.ahead text milliseconds) forward no_offset =
 
 -- ---- selectors
 
-no_square_before : (o : Option Span) (us rest : List Word) → OffsetOf o us
-    → behind is_open_square rest ≡ None
-    → behind is_open_square (us ++ rest) ≡ None
-no_square_before _ _ rest OffsetOf.none no_square = no_square
-no_square_before _ _ rest (OffsetOf.back text milliseconds) no_square = refl
-no_square_before _ _ rest (OffsetOf.ahead text milliseconds) no_square = refl
+-- what is true of the words behind a head's range and offset, and of all that these begin with, is
+-- true with them before
+module _ (P : List Word → Type 0)
+    (name : (text : List ℕ) (ts : List Word) → P (word.Name keyword.Offset text ∷ ts)) where
+  before_offset : (o : Option Span) (us rest : List Word) → OffsetOf o us → P rest → P (us ++ rest)
+  before_offset _ _ rest OffsetOf.none holds = holds
+  before_offset _ _ rest (OffsetOf.back text milliseconds) holds = name text _
+  before_offset _ _ rest (OffsetOf.ahead text milliseconds) holds = name text _
 
-no_brace_in_offset : (o : Option Span) (us rest : List Word) → OffsetOf o us
-    → behind is_open_brace rest ≡ None
-    → behind is_open_brace (us ++ rest) ≡ None
-no_brace_in_offset _ _ rest OffsetOf.none no_brace = no_brace
-no_brace_in_offset _ _ rest (OffsetOf.back text milliseconds) no_brace = refl
-no_brace_in_offset _ _ rest (OffsetOf.ahead text milliseconds) no_brace = refl
-
-no_brace_in_range : (r : Option Span) (us rest : List Word) → RangeOf r us
-    → behind is_open_brace rest ≡ None
-    → behind is_open_brace (us ++ rest) ≡ None
-no_brace_in_range _ _ rest RangeOf.none no_brace = no_brace
-no_brace_in_range _ _ rest (RangeOf.given milliseconds above) no_brace = refl
+  pub before_range : ((ts : List Word) → P (word.OpenSquare ∷ ts))
+      → (r o : Option Span) (us vs rest : List Word) → RangeOf r us → OffsetOf o vs → P rest
+      → P (us ++ (vs ++ rest))
+  before_range square _ o _ vs rest RangeOf.none spelled holds = before_offset o vs rest spelled holds
+  before_range square _ o _ vs rest (RangeOf.given milliseconds above) spelled holds = square _
 
 pub selector_sound : Sound SelectorOf selector
 unfolding selector
@@ -365,8 +288,8 @@ selector_sound ts x is =
     )
 
 pub selector_complete : (e : Expr) (us rest : List Word) → SelectorOf e us → Forward us
-    → behind is_open_brace rest ≡ None
-    → behind is_open_square rest ≡ None → behind is_offset rest ≡ None
+    → beyond word.OpenBrace rest ≡ None
+    → beyond word.OpenSquare rest ≡ None → beyond_keyword keyword.Offset rest ≡ None
     → selector (us ++ rest) ≡ Some (e, rest)
 unfolding selector
 selector_complete _ _ rest (SelectorOf.selector name ms r o ts us vs head_is range_is offset_is)
@@ -376,10 +299,13 @@ selector_complete _ _ rest (SelectorOf.selector name ms r o ts us vs head_is ran
     in
     let found_h : head (ts ++ (us ++ (vs ++ rest))) ≡ Some ((name, ms), us ++ (vs ++ rest)) =
     head_complete name ms ts (us ++ (vs ++ rest)) head_is
-    (no_brace_in_range r us (vs ++ rest) range_is (no_brace_in_offset o vs rest offset_is no_brace))
+    (before_range (λ ts. beyond word.OpenBrace ts ≡ None) (λ text ts. refl) (λ ts. refl) r o us vs
+    rest range_is offset_is no_brace)
     in
     let found_r : range (us ++ (vs ++ rest)) ≡ Some (r, vs ++ rest) =
-    range_complete r us (vs ++ rest) range_is (no_square_before o vs rest offset_is no_square)
+    range_complete r us (vs ++ rest) range_is
+    (before_offset (λ ts. beyond word.OpenSquare ts ≡ None) (λ text ts. refl) o vs rest offset_is
+    no_square)
     in
     let found_o : offset (vs ++ rest) ≡ Some (o, rest) =
     offset_complete o vs rest offset_is (back_part us vs (back_part ts (us ++ vs) forward))

@@ -1,8 +1,7 @@
 -- What the readers are, one way out of the code at a time.
-use Rattle.std.proofs.Common.{◌≡◌, ◌≢◌, ℕ, zero, suc, ◌+◌, ◌-◌, ◌<◌, ◌≤◌, Bool, true, false, List, [], ◌∷◌, ◌++◌, Option, Some, None, length, map, max, refl, ap, sym, subst, ◌∙◌, arith, add-one, if◌then◌else◌}
+use Rattle.std.proofs.Common.{◌≡◌, ◌≢◌, ℕ, zero, suc, ◌+◌, ◌-◌, ◌<◌, ◌≤◌, Bool, List, [], ◌∷◌, ◌++◌, Option, Some, None, length, map, max, refl, ap, sym, subst, ◌∙◌, arith, add-one}
 use Rattle.ql_tree.specs.Children.{depth_of, greatest}
 use Rattle.ql_tree.specs.Operators.{is_comparison, sign_of}
-use Rattle.ql_tree.specs.Spells.{is_open}
 use Rattle.ql_tree.specs.declared.tree.BinaryOp.{BinaryOp}
 use Rattle.ql_tree.specs.declared.tree.Expr.{Expr}
 use Rattle.ql_tree.specs.declared.tree.Expr.TheVariants as expr
@@ -11,17 +10,17 @@ use Rattle.ql_tree.specs.declared.word.Keyword.TheVariants as keyword
 use Rattle.ql_tree.specs.declared.word.Word.{Word}
 use Rattle.ql_tree.specs.declared.word.Word.TheVariants as word
 use Rattle.ql_parse.specs.Climbing.{atom_in, operand, chained, bracketed, arguments_in, operands_in, alone_in, both_in, with_param, name_in, call_of}
-use Rattle.ql_parse.specs.Found.{Found, ◌>>=◌, first, behind, with_front, fitting}
-use Rattle.ql_parse.specs.FrontWords.{is_close, is_comma, operator_at}
+use Rattle.ql_parse.specs.CommaLists.{followed}
+use Rattle.ql_parse.specs.Found.{Found, ◌>>=◌, first, fitting}
+use Rattle.ql_parse.specs.FrontWords.{beyond, operator_at}
 use Rattle.ql_parse.specs.Gives.{Lacks}
 use Rattle.ql_parse.specs.ReadClauses.{boolean, matching}
 use Rattle.ql_parse.specs.ReadSelectors.{selector}
-use Rattle.ql_parse.specs.ReadTerms.{Operated, atom, name, call, call_arguments, arguments, closed, operands, operands_behind}
+use Rattle.ql_parse.specs.ReadTerms.{Operated, atom, name, call_arguments, arguments, closed, operands, operands_behind}
 use Rattle.ql_parse.specs.Reading.{signed, sign_at, under_sign, turn, right, chain, level, within, whole}
 use Rattle.ql_parse.specs.declared.fault.ParseFault.{ParseFault}
 use Rattle.ql_parse.specs.declared.fault.ParseFault.TheVariants.{NotExpr, NoMemory}
 use Rattle.ql_parse.proofs.DepthLemmas.{depths, depths-append}
-use Rattle.ql_parse.proofs.ListSteps.{with_all, broken_here}
 
 -- what isn't read leaves nothing to go on with
 lacks_more : {A B : Type 0} (fault : ParseFault) (read : Option A) (more : A → Option B)
@@ -185,80 +184,36 @@ chain_lost fault k top n d ts us e below is lacks =
     (lacks_same fault _ _ (level_next k n d ts us e is) lacks)
 
 -- names
-pub name_call : (n d : ℕ) (text : List ℕ) (ts us : List Word) → behind is_open ts ≡ Some us
+pub name_call : (n d : ℕ) (text : List ℕ) (ts us : List Word) → beyond word.Open ts ≡ Some us
     → name_in n d text ts ≡ call_of n d text us
 unfolding name
-name_call n d text [] us is = absurd (cc)
-name_call n d text (w ∷ ts) us is = opened (is_open w) is
-  where
-    opened : (opens : Bool) → (if opens then Some ts else None) ≡ Some us
-        → (if opens then (behind is_open (w ∷ ts) >>= call n (within n d) d text) else selector
-        (word.Name keyword.Plain text ∷ w ∷ ts))
-        ≡ call n (within n d) d text us
-    opened true f = ap (λ o. o >>= call n (within n d) d text) is
-    opened false f = absurd (cc)
+name_call n d text ts us is = rw is refl
 
-pub name_select : (n d : ℕ) (text : List ℕ) (ts : List Word) → behind is_open ts ≡ None
+pub name_select : (n d : ℕ) (text : List ℕ) (ts : List Word) → beyond word.Open ts ≡ None
     → name_in n d text ts ≡ selector (word.Name keyword.Plain text ∷ ts)
 unfolding name
-name_select n d text [] is = refl
-name_select n d text (w ∷ ts) is = opened (is_open w) is
-  where
-    opened : (opens : Bool) → (if opens then Some ts else None) ≡ None
-        → (if opens then (behind is_open (w ∷ ts) >>= call n (within n d) d text) else selector
-        (word.Name keyword.Plain text ∷ w ∷ ts))
-        ≡ selector (word.Name keyword.Plain text ∷ w ∷ ts)
-    opened true f = absurd (cc)
-    opened false f = refl
+name_select n d text ts is = rw is refl
 
 -- arguments
-pub arguments_none : (n d : ℕ) (ts us : List Word) → behind is_close ts ≡ Some us
+pub arguments_none : (n d : ℕ) (ts us : List Word) → beyond word.Close ts ≡ Some us
     → arguments_in n d ts ≡ Some ([], us)
 unfolding call_arguments
 arguments_none n d ts us is = rw is refl
 
-pub arguments_some : (n d : ℕ) (ts : List Word) → behind is_close ts ≡ None
+pub arguments_some : (n d : ℕ) (ts : List Word) → beyond word.Close ts ≡ None
     → arguments_in n d ts ≡ arguments (length ts) (within n d) ts
 unfolding call_arguments
 arguments_some n d ts is = rw is refl
 
-module _ (n d : ℕ) (ts us : List Word) (e : Expr) (found : within n d ts ≡ Some (e, us)) where
-  pub argument_last : (vs : List Word) → behind is_close us ≡ Some vs → (m : ℕ)
-      → arguments (suc m) (within n d) ts ≡ Some (e ∷ [], vs)
+module _ (n d : ℕ) (ts : List Word) where
+  pub arguments_read : (m : ℕ) → arguments (suc m) (within n d) ts
+      ≡ (within n d ts >>= followed word.Close (arguments m (within n d)))
   unfolding arguments
-  argument_last vs is m = rw (found, is) refl
+  arguments_read m = refl
 
-  pub argument_more : (vs : List Word) → behind is_close us ≡ None → behind is_comma us ≡ Some vs
-      → (m : ℕ)
-      → arguments (suc m) (within n d) ts ≡ with_front e (arguments m (within n d) vs)
+  pub no_argument : arguments 0 (within n d) ts ≡ None
   unfolding arguments
-  argument_more vs is comma m = rw (found, is, comma) refl
-
-  pub argument_broken : behind is_close us ≡ None → behind is_comma us ≡ None → (m : ℕ)
-      → arguments (suc m) (within n d) ts ≡ None
-  unfolding arguments
-  argument_broken is comma m = rw (found, is, comma) refl
-
-argument_lost : (n d : ℕ) (ts : List Word) → within n d ts ≡ None → (m : ℕ)
-    → arguments (suc m) (within n d) ts ≡ None
-unfolding arguments
-argument_lost n d ts is m = rw is refl
-
-pub no_argument : (n d : ℕ) (ts : List Word) → arguments 0 (within n d) ts ≡ None
-unfolding arguments
-no_argument n d ts = refl
-
-pub argument_fault : (fault : ParseFault) (n d total step : ℕ) (words rest : List Word)
-    (found : List Expr) → behind is_close words ≡ None
-    → with_all found (arguments (total - step) (within n d) rest)
-    ≡ arguments (length words) (within n d) words → step < total
-    → Lacks fault (within n d rest) → Lacks fault (arguments_in n d words)
-argument_fault NotExpr n d total step words rest found some so_far inside lacks =
-    arguments_some n d words some
-    ∙ broken_here (λ m. arguments m (within n d)) (arguments (length words) (within n d) words)
-    found total step rest so_far inside
-    (argument_lost n d rest lacks)
-argument_fault NoMemory n d total step words rest found some so_far inside lacks = tt
+  no_argument = refl
 
 pub depth_pushed : (found new : List Expr) (e : Expr) (before own : ℕ) → new ≡ found ++ e ∷ []
     → before ≡ greatest (map depth_of found)
@@ -280,24 +235,24 @@ both_closed : (e : Expr) (read : Found Expr)
     → (read >>= λ of. closed {A = Operated} (e ∷ [], of.0) of.1)
     ≡ ((read >>= λ of. closed of.0 of.1) >>= with_param e)
 both_closed e None = refl
-both_closed e (Some of) = closed_with e of.0 (behind is_close of.1) _ _ refl refl
+both_closed e (Some of) = closed_with e of.0 (beyond word.Close of.1) _ _ refl refl
 
 module _ (n d : ℕ) (ts us : List Word) (e : Expr) (found : within n d ts ≡ Some (e, us)) where
-  pub operand_alone : behind is_comma us ≡ None → alone_in e us ≡ operands_in n d ts
+  pub operand_alone : beyond word.Comma us ≡ None → alone_in e us ≡ operands_in n d ts
   unfolding operands
   operand_alone is = rw (found, is) refl
 
-  operand_pair : (vs : List Word) → behind is_comma us ≡ Some vs
+  operand_pair : (vs : List Word) → beyond word.Comma us ≡ Some vs
       → operands_in n d ts ≡ (bracketed n d vs >>= with_param e)
   unfolding operands
   operand_pair vs is = rw (found, is) (both_closed e (within n d vs))
 
-  pub operand_both : (vs ws : List Word) (of : Expr) → behind is_comma us ≡ Some vs
+  pub operand_both : (vs ws : List Word) (of : Expr) → beyond word.Comma us ≡ Some vs
       → bracketed n d vs ≡ Some (of, ws) → both_in e of ws ≡ operands_in n d ts
   operand_both vs ws of is read =
       sym (operand_pair vs is ∙ ap (λ o. o >>= with_param e) read)
 
-  pub operand_fault : (fault : ParseFault) (vs : List Word) → behind is_comma us ≡ Some vs
+  pub operand_fault : (fault : ParseFault) (vs : List Word) → beyond word.Comma us ≡ Some vs
       → Lacks fault (bracketed n d vs) → Lacks fault (operands_in n d ts)
   operand_fault fault vs is lacks =
       lacks_same fault _ _ (operand_pair vs is)
@@ -305,7 +260,7 @@ module _ (n d : ℕ) (ts us : List Word) (e : Expr) (found : within n d ts ≡ S
 
 operands_read : (n d : ℕ) (ts : List Word)
     → operands_in n d ts
-    ≡ (within n d ts >>= λ e. operands_behind (within n d) e.0 e.1 (behind is_comma e.1))
+    ≡ (within n d ts >>= λ e. operands_behind (within n d) e.0 e.1 (beyond word.Comma e.1))
 unfolding operands
 operands_read n d ts = refl
 
@@ -314,7 +269,7 @@ pub operands_fault : (fault : ParseFault) (n d : ℕ) (ts : List Word)
 operands_fault fault n d ts lacks =
     lacks_same fault _ _ (operands_read n d ts)
     (lacks_more fault (within n d ts)
-    (λ e. operands_behind (within n d) e.0 e.1 (behind is_comma e.1)) lacks)
+    (λ e. operands_behind (within n d) e.0 e.1 (beyond word.Comma e.1)) lacks)
 
 -- the whole of the words
 pub whole_fault : (fault : ParseFault) (found : Found Expr) → Lacks fault found

@@ -4,55 +4,42 @@ use Rattle.op_base.specs.Names.{is_label_name}
 use Rattle.op_base.specs.declared.span.Span.{Span}
 use Rattle.ql_tree.specs.Operators.{operator_of, level_of}
 use Rattle.ql_tree.specs.declared.tree.BinaryOp.{BinaryOp}
+use Rattle.ql_tree.specs.declared.word.Keyword.{Keyword}
 use Rattle.ql_tree.specs.declared.word.Keyword.TheVariants as keyword
 use Rattle.ql_tree.specs.declared.word.Word.{Word}
 use Rattle.ql_tree.specs.declared.word.Word.TheVariants as word
-use Rattle.ql_parse.specs.Found.{◌>>=◌}
+use Rattle.ql_parse.specs.Found.{◌>>=◌, behind}
 
--- the symbols that stand between terms, and the two words that begin no clause with a list
-abbrev pub is_close : Word → Bool
-is_close word.Close = true
-is_close _ = false
+-- the two words are the same symbol, one of those that stand between terms
+abbrev pub is_symbol : Word → Word → Bool
+is_symbol word.Open word.Open = true
+is_symbol word.Close word.Close = true
+is_symbol word.Comma word.Comma = true
+is_symbol word.OpenBrace word.OpenBrace = true
+is_symbol word.CloseBrace word.CloseBrace = true
+is_symbol word.OpenSquare word.OpenSquare = true
+is_symbol word.CloseSquare word.CloseSquare = true
+is_symbol word.Minus word.Minus = true
+is_symbol _ _ = false
 
--- a comma
-abbrev pub is_comma : Word → Bool
-is_comma word.Comma = true
-is_comma _ = false
+-- the words behind the symbol, where it stands in front
+abbrev pub beyond : Word → List Word → Option (List Word)
+beyond v = behind (is_symbol v)
 
--- an opening brace
-abbrev pub is_open_brace : Word → Bool
-is_open_brace word.OpenBrace = true
-is_open_brace _ = false
+-- both are the same keyword, one of the two that begin no clause with a list
+abbrev pub same_keyword : Keyword → Keyword → Bool
+same_keyword keyword.Offset keyword.Offset = true
+same_keyword keyword.Bool keyword.Bool = true
+same_keyword _ _ = false
 
--- a closing brace
-abbrev pub is_close_brace : Word → Bool
-is_close_brace word.CloseBrace = true
-is_close_brace _ = false
+-- the word is the keyword, in any letter case
+abbrev pub is_keyword : Keyword → Word → Bool
+is_keyword k (word.Name own text) = same_keyword k own
+is_keyword k _ = false
 
--- an opening square bracket
-abbrev pub is_open_square : Word → Bool
-is_open_square word.OpenSquare = true
-is_open_square _ = false
-
--- a closing square bracket
-abbrev pub is_close_square : Word → Bool
-is_close_square word.CloseSquare = true
-is_close_square _ = false
-
--- a minus sign
-abbrev pub is_minus : Word → Bool
-is_minus word.Minus = true
-is_minus _ = false
-
--- the word `offset`, in any letter case
-abbrev pub is_offset : Word → Bool
-is_offset (word.Name keyword.Offset text) = true
-is_offset _ = false
-
--- the word `bool`, in any letter case
-abbrev pub is_bool : Word → Bool
-is_bool (word.Name keyword.Bool text) = true
-is_bool _ = false
+-- the words behind the keyword, where it stands in front
+abbrev pub beyond_keyword : Keyword → List Word → Option (List Word)
+beyond_keyword k = behind (is_keyword k)
 
 -- a label is a word without `:`, also a reserved one
 abbrev pub label_of : Word → Option (List ℕ)

@@ -1,10 +1,9 @@
 pub mod Climbing
+pub mod CommaLists
 pub mod Cutting
 pub mod Found
 pub mod FrontWords
 pub mod Gives
-pub mod LabelStep
-pub mod MatcherStep
 pub mod Next
 pub mod Placed
 pub mod ReadClauses

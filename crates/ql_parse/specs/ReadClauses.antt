@@ -1,30 +1,22 @@
 -- The reading of lists of labels, and of the clauses that have one. `n` is how many round brackets
 -- may still be opened where the words stand.
-use Rattle.std.specs.Prelude.{ℕ, zero, suc, Bool, true, false, List, [], Option, Some, None, nat_lt, length, if◌then◌else◌}
+use Rattle.std.specs.Prelude.{ℕ, Bool, true, false, List, [], Option, Some, None, nat_lt, if◌then◌else◌}
 use Rattle.ql_tree.specs.Operators.{matching_of, side_of, grouping_of}
-use Rattle.ql_tree.specs.Spells.{is_open, begins_open}
+use Rattle.ql_tree.specs.Spells.{begins_open}
 use Rattle.ql_tree.specs.declared.tree.Matching.{Matching}
 use Rattle.ql_tree.specs.declared.tree.Side.{Side}
 use Rattle.ql_tree.specs.declared.tree.Grouping.{Grouping}
+use Rattle.ql_tree.specs.declared.word.Keyword.TheVariants as keyword
 use Rattle.ql_tree.specs.declared.word.Word.{Word}
-use Rattle.ql_parse.specs.Found.{Found, Reader, ◌>>=◌, first, behind, ended, with_front}
-use Rattle.ql_parse.specs.FrontWords.{is_close, is_comma, is_bool, label_of}
-
--- labels with a comma between each two and perhaps one behind the last, and the bracket that closes
--- them; at most m labels
-unfoldable pub labels : ℕ → Reader (List (List ℕ))
-labels zero ts = None
-labels (suc m) ts = ended
-    (behind is_close ts)
-    (
-    first label_of ts
-    >>= λ label. with_front label.0
-    (ended (behind is_close label.1) (behind is_comma label.1 >>= labels m))
-    )
+use Rattle.ql_tree.specs.declared.word.Word.TheVariants as word
+use Rattle.ql_parse.specs.CommaLists.{enclosed}
+use Rattle.ql_parse.specs.Found.{Found, Reader, ◌>>=◌, first}
+use Rattle.ql_parse.specs.FrontWords.{beyond_keyword, label_of}
 
 -- labels between round brackets
 unfoldable pub label_list : ℕ → Reader (List (List ℕ))
-label_list n ts = if nat_lt 0 n then (behind is_open ts >>= λ us. labels (length us) us) else None
+label_list n ts =
+    if nat_lt 0 n then enclosed word.Open word.Close (first label_of) ts else None
 
 -- the clause with its list
 abbrev pub side_of_labels : Bool → List (List ℕ) × List Word → Found (Option Side)
@@ -68,7 +60,7 @@ boolean_at ts (Some rest) = (true, rest)
 
 -- whether `bool` stands behind a comparison, and the words behind it
 unfoldable pub boolean : Bool → List Word → Bool × List Word
-boolean comparison ts = if comparison then boolean_at ts (behind is_bool ts) else (false, ts)
+boolean comparison ts = if comparison then boolean_at ts (beyond_keyword keyword.Bool ts) else (false, ts)
 
 -- the clause with its list
 abbrev pub grouping_of_labels : Bool → List (List ℕ) × List Word → Found (Option Grouping)

@@ -1,5 +1,5 @@
 -- The reading of selectors: a name, matchers in braces, a range and an offset.
-use Rattle.std.specs.Prelude.{ℕ, zero, suc, pos, neg_ℤ, List, [], Option, Some, None, int_lt, int_le, length, if◌then◌else◌}
+use Rattle.std.specs.Prelude.{ℕ, pos, neg_ℤ, List, [], Option, Some, None, int_lt, int_le, if◌then◌else◌}
 use Rattle.std.specs.List.{list_any}
 use Rattle.op_base.specs.declared.matcher.Matcher.{Matcher}
 use Rattle.op_base.specs.declared.span.Span.{Span}
@@ -7,9 +7,12 @@ use Rattle.ql_tree.specs.Selecting.{match_of, is_on_name}
 use Rattle.ql_tree.specs.Words.{span_of}
 use Rattle.ql_tree.specs.declared.tree.Expr.{Expr}
 use Rattle.ql_tree.specs.declared.tree.Expr.TheVariants as expr
+use Rattle.ql_tree.specs.declared.word.Keyword.TheVariants as keyword
 use Rattle.ql_tree.specs.declared.word.Word.{Word}
-use Rattle.ql_parse.specs.Found.{Found, Reader, ◌>>=◌, first, behind, ended, with_front}
-use Rattle.ql_parse.specs.FrontWords.{is_comma, is_open_brace, is_close_brace, is_open_square, is_close_square, is_minus, is_offset, label_of, plain_of, quoted_of, length_of}
+use Rattle.ql_tree.specs.declared.word.Word.TheVariants as word
+use Rattle.ql_parse.specs.CommaLists.{enclosed}
+use Rattle.ql_parse.specs.Found.{Found, Reader, ◌>>=◌, first}
+use Rattle.ql_parse.specs.FrontWords.{beyond, beyond_keyword, label_of, plain_of, quoted_of, length_of}
 
 -- a label, an operator and a string
 unfoldable pub matcher : Reader Matcher
@@ -17,21 +20,9 @@ matcher ts =
     first label_of ts >>= λ label. first match_of label.1 >>= λ op. first quoted_of op.1
     >>= λ value. Some (record { name = label.0; op = op.0; value = value.0 }, value.1)
 
--- matchers with a comma between each two and perhaps one behind the last, and the brace that closes
--- them; at most m matchers
-unfoldable pub matchers : ℕ → Reader (List Matcher)
-matchers zero ts = None
-matchers (suc m) ts = ended
-    (behind is_close_brace ts)
-    (
-    matcher ts
-    >>= λ one. with_front one.0
-    (ended (behind is_close_brace one.1) (behind is_comma one.1 >>= matchers m))
-    )
-
 -- matchers between braces
 unfoldable pub braces : Reader (List Matcher)
-braces ts = behind is_open_brace ts >>= λ us. matchers (length us) us
+braces = enclosed word.OpenBrace word.CloseBrace matcher
 
 -- a selector's name, if it has one, and its matchers
 abbrev pub Headed : Type 0
@@ -53,7 +44,7 @@ head_behind name ts (Some us) = braces ts >>= named name
 -- by the name that stands in front, if one does
 abbrev pub head_at : List Word → Option (List ℕ × List Word) → Found Headed
 head_at ts None = braces ts >>= headed None
-head_at ts (Some name) = head_behind name.0 name.1 (behind is_open_brace name.1)
+head_at ts (Some name) = head_behind name.0 name.1 (beyond word.OpenBrace name.1)
 
 -- a name that isn't reserved, matchers in braces, or both
 unfoldable pub head : Reader Headed
@@ -68,12 +59,12 @@ abbrev pub range_at : List Word → Option (List Word) → Found (Option Span)
 range_at ts None = Some (None, ts)
 range_at ts (Some us) =
     first length_of us
-    >>= λ span. behind is_close_square span.1
+    >>= λ span. beyond word.CloseSquare span.1
     >>= above_zero span.0
 
 -- a duration above 0 in square brackets, or nothing
 unfoldable pub range : Reader (Option Span)
-range ts = range_at ts (behind is_open_square ts)
+range ts = range_at ts (beyond word.OpenSquare ts)
 
 -- the offset of a duration
 abbrev pub back : Span × List Word → Found (Option Span)
@@ -92,11 +83,11 @@ offset_by ts (Some us) = first length_of us >>= ahead
 -- by the words behind `offset`, if it stands in front
 abbrev pub offset_at : List Word → Option (List Word) → Found (Option Span)
 offset_at ts None = Some (None, ts)
-offset_at ts (Some us) = offset_by us (behind is_minus us)
+offset_at ts (Some us) = offset_by us (beyond word.Minus us)
 
 -- `offset` with a duration, which a minus makes negative, or nothing
 unfoldable pub offset : Reader (Option Span)
-offset ts = offset_at ts (behind is_offset ts)
+offset ts = offset_at ts (beyond_keyword keyword.Offset ts)
 
 -- a head, a range and an offset
 unfoldable pub selector : Reader Expr

@@ -2,7 +2,6 @@
 -- be opened where the words stand, `d` how deep a tree may be, at least 1. `inside` reads what stands
 -- between brackets.
 use Rattle.std.specs.Prelude.{ℕ, zero, suc, List, [], ◌∷◌, Option, Some, None, nat_lt, length, if◌then◌else◌}
-use Rattle.ql_tree.specs.Spells.{is_open, begins_open}
 use Rattle.ql_tree.specs.declared.tree.AggregateOp.{AggregateOp}
 use Rattle.ql_tree.specs.declared.tree.Expr.{Expr}
 use Rattle.ql_tree.specs.declared.tree.Expr.TheVariants as expr
@@ -10,26 +9,24 @@ use Rattle.ql_tree.specs.declared.tree.Grouping.{Grouping}
 use Rattle.ql_tree.specs.declared.word.Keyword.TheVariants as keyword
 use Rattle.ql_tree.specs.declared.word.Word.{Word}
 use Rattle.ql_tree.specs.declared.word.Word.TheVariants as word
-use Rattle.ql_parse.specs.Found.{Found, Reader, ◌>>=◌, behind, ended, with_front, fitting}
-use Rattle.ql_parse.specs.FrontWords.{is_close, is_comma}
+use Rattle.ql_parse.specs.CommaLists.{followed}
+use Rattle.ql_parse.specs.Found.{Found, Reader, ◌>>=◌, ended, fitting}
+use Rattle.ql_parse.specs.FrontWords.{beyond}
 use Rattle.ql_parse.specs.ReadClauses.{grouping}
 use Rattle.ql_parse.specs.ReadSelectors.{selector}
 
 -- what was read, and then a bracket that closes
 abbrev pub closed : {A : Type 0} → A → List Word → Found A
-closed x ts = behind is_close ts >>= λ rest. Some (x, rest)
+closed x ts = beyond word.Close ts >>= λ rest. Some (x, rest)
 
 -- one argument or more with a comma between each two, and the bracket that closes them; at most m
 unfoldable pub arguments : ℕ → Reader Expr → Reader (List Expr)
 arguments zero inside ts = None
-arguments (suc m) inside ts =
-    inside ts
-    >>= λ e. with_front e.0
-    (ended (behind is_close e.1) (behind is_comma e.1 >>= arguments m inside))
+arguments (suc m) inside ts = inside ts >>= followed word.Close (arguments m inside)
 
 -- behind a call's bracket: its arguments, or none
 unfoldable pub call_arguments : Reader Expr → Reader (List Expr)
-call_arguments inside ts = ended (behind is_close ts) (arguments (length ts) inside ts)
+call_arguments inside ts = ended (beyond word.Close ts) (arguments (length ts) inside ts)
 
 -- a call, behind its bracket
 unfoldable pub call : ℕ → Reader Expr → ℕ → List ℕ → Reader Expr
@@ -50,7 +47,7 @@ operands_behind inside e ts (Some us) = inside us >>= λ of. closed (e ∷ [], o
 -- an operand or, with a comma between them, a parameter and an operand; and the bracket that closes
 -- them
 unfoldable pub operands : Reader Expr → Reader Operated
-operands inside ts = inside ts >>= λ e. operands_behind inside e.0 e.1 (behind is_comma e.1)
+operands inside ts = inside ts >>= λ e. operands_behind inside e.0 e.1 (beyond word.Comma e.1)
 
 -- behind an aggregate's operands: a grouping clause, where none stood before
 unfoldable pub grouping_behind : ℕ → Option Grouping → Reader (Option Grouping)
@@ -65,14 +62,18 @@ aggregated d op of g = fitting d (expr.Aggregate op g.0 of.0 (of.1 ∷ [])) g.1
 unfoldable pub aggregate : ℕ → Reader Expr → ℕ → AggregateOp → Reader Expr
 aggregate n inside d op ts =
     grouping n ts
-    >>= λ before. behind is_open before.1 >>= operands inside
+    >>= λ before. beyond word.Open before.1 >>= operands inside
     >>= λ of. grouping_behind n before.0 of.1 >>= aggregated d op of.0
+
+-- behind a name, by the words behind `(`, if it stands in front: a call, else a selector
+abbrev pub name_at
+    : ℕ → Reader Expr → ℕ → List ℕ → List Word → Option (List Word) → Found Expr
+name_at n inside d text ts None = selector (word.Name keyword.Plain text ∷ ts)
+name_at n inside d text ts (Some us) = call n inside d text us
 
 -- a name: a call where a bracket follows, else a selector
 unfoldable pub name : ℕ → Reader Expr → ℕ → List ℕ → Reader Expr
-name n inside d text ts =
-    if begins_open ts then (behind is_open ts >>= call n inside d text)
-    else selector (word.Name keyword.Plain text ∷ ts)
+name n inside d text ts = name_at n inside d text ts (beyond word.Open ts)
 
 -- what stands between operators and signs
 unfoldable pub atom : ℕ → (ℕ → Reader Expr) → ℕ → Reader Expr

@@ -1,78 +1,34 @@
-ghost use Rattle.std.specs.Prelude.{◌≡◌, ◌++◌, ◌∷◌, [], length, OnOk};
+ghost use Rattle.std.specs.Prelude.{◌≡◌, Some};
+ghost use Rattle.ql_tree.specs.declared.word.Word.TheVariants as word;
+ghost use Rattle.ql_parse.specs.Found.{first};
+ghost use Rattle.ql_parse.specs.FrontWords.{label_of};
 ghost use Rattle.ql_parse.specs.Gives.{Gives};
-ghost use Rattle.ql_parse.specs.LabelStep.{IsLabelStep, IsBehindLabel};
 ghost use Rattle.ql_parse.specs.ReadClauses as reading;
 
 use crate::fault::ParseFault;
 use crate::fronts::{
-    begins_open, bool_word, close, comma, grouping_word, label, matching_word, open, side_word,
+    begins_open, bool_word, close, grouping_word, label, matching_word, open, side_word,
 };
-use op_base::{List, NoMemory, Text};
+use crate::lists::{Item, comma_list};
+use op_base::{List, Text};
 use ql_tree::{Grouping, Matching, Side, Word};
 use std::alloc::Global;
 
-enum Step<'a> {
-    /// No label is left.
-    End(&'a [Word]),
-    Last(&'a Text, &'a [Word]),
-    More(&'a Text, &'a [Word]),
-    Broken,
-}
+impl Item for Text {
+    ghost closing = { word.Close };
 
-/// The next label, and what follows it.
-#[tactic(auto, unfolding(crate::specs::ReadClauses::labels))]
-fn next_label(words: &[Word]) -> Step<'_>
-    ensures { IsLabelStep words.now result }
-{
-    if let Some(rest) = close(words) {
-        return Step::End(rest);
-    }
-    match label(words) {
-        Some((text, rest)) => behind_label(text, rest),
-        None => Step::Broken,
-    }
-}
+    ghost reading = { first label_of };
 
-fn behind_label<'a>(text: &'a Text, words: &'a [Word]) -> Step<'a>
-    ensures { IsBehindLabel text.now words.now result }
-{
-    if let Some(rest) = close(words) {
-        return Step::Last(text, rest);
+    fn close(words: &[Word]) -> Option<&[Word]> {
+        close(words)
     }
-    match comma(words) {
-        Some(rest) => Step::More(text, rest),
-        None => Step::Broken,
-    }
-}
 
-/// Labels with a comma between each two and perhaps one behind the last, and the bracket that
-/// closes them.
-fn labels(alloc: Global, words: &[Word]) -> Result<(List<Text>, &[Word]), ParseFault>
-    ensures { Gives (λ x. (x.0, x.1.now)) result (reading.labels (length words.now) words.now) }
-{
-    let mut found = List::new(alloc);
-    let mut rest = words;
-    for step in 0..words.len() {
-        match next_label(rest) {
-            Step::End(behind) => return Ok((found, behind)),
-            Step::Last(text, behind) => {
-                push_label(alloc, &mut found, text)?;
-                return Ok((found, behind));
-            }
-            Step::More(text, behind) => {
-                push_label(alloc, &mut found, text)?;
-                rest = behind;
-            }
-            Step::Broken => return Err(ParseFault::NotExpr),
+    fn read(alloc: Global, words: &[Word]) -> Result<(Text, &[Word]), ParseFault> {
+        match label(words) {
+            Some((text, rest)) => Ok((Text::from_str(alloc, text.as_str())?, rest)),
+            None => Err(ParseFault::NotExpr),
         }
     }
-    Err(ParseFault::NotExpr)
-}
-
-fn push_label(alloc: Global, found: &mut List<Text>, text: &Text) -> Result<(), NoMemory>
-    ensures { OnOk result (found.new ≡ found.old ++ text.now ∷ []) }
-{
-    found.push(Text::from_str(alloc, text.as_str())?)
 }
 
 /// Labels between round brackets, of which `room` may be opened.
@@ -88,7 +44,7 @@ fn label_list(
         return Err(ParseFault::NotExpr);
     }
     match open(words) {
-        Some(rest) => labels(alloc, rest),
+        Some(rest) => comma_list(alloc, rest),
         None => Err(ParseFault::NotExpr),
     }
 }

@@ -46,10 +46,9 @@ fn whole(expr: Expr, rest: &[Word]) -> Result<Expr, ParseFault>
 fn within(
     alloc: Global,
     room: usize,
-    limit: usize,
+    limit: u8,
     words: &[Word],
-) -> Result<(Expr, usize, &[Word]), ParseFault>
-    requires { limit ≤ 200 }
+) -> Result<(Expr, u8, &[Word]), ParseFault>
     ensures read { Gives (λ x. (x.0, x.2.now)) result (reading.within room limit words.now) }
     ensures depth { IfOk result (λ x. x.1 ≡ depth_of x.0) }
     ensures fits { IfOk result (λ x. x.1 ≤ limit) }
@@ -67,10 +66,9 @@ fn level(
     alloc: Global,
     top: usize,
     room: usize,
-    limit: usize,
+    limit: u8,
     words: &[Word],
-) -> Result<(Expr, usize, &[Word]), ParseFault>
-    requires limit { limit ≤ 200 }
+) -> Result<(Expr, u8, &[Word]), ParseFault>
     requires top { top ≤ 5 }
     ensures read { Gives (λ x. (x.0, x.2.now)) result
         (climbing.operand top room limit words.now) }
@@ -102,11 +100,10 @@ fn chain<'a>(
     alloc: Global,
     below: usize,
     room: usize,
-    limit: usize,
-    left: (Expr, usize),
+    limit: u8,
+    left: (Expr, u8),
     words: &'a [Word],
-) -> Result<(Expr, usize, &'a [Word]), ParseFault>
-    requires limit { limit ≤ 200 }
+) -> Result<(Expr, u8, &'a [Word]), ParseFault>
     requires below { below < 5 }
     requires depth { left.1 ≡ depth_of left.0 }
     requires fits { left.1 ≤ limit }
@@ -138,12 +135,11 @@ fn right<'a>(
     alloc: Global,
     below: usize,
     room: usize,
-    limit: usize,
-    left: (Expr, usize),
+    limit: u8,
+    left: (Expr, u8),
     op: BinaryOp,
     words: &'a [Word],
-) -> Result<(Expr, usize, &'a [Word]), ParseFault>
-    requires limit { limit ≤ 200 }
+) -> Result<(Expr, u8, &'a [Word]), ParseFault>
     requires below { below < 5 }
     requires depth { left.1 ≡ depth_of left.0 }
     ensures read { Gives (λ x. (x.0, x.2.now)) result
@@ -177,10 +173,9 @@ fn right<'a>(
 fn signed(
     alloc: Global,
     room: usize,
-    limit: usize,
+    limit: u8,
     words: &[Word],
-) -> Result<(Expr, usize, &[Word]), ParseFault>
-    requires { limit ≤ 200 }
+) -> Result<(Expr, u8, &[Word]), ParseFault>
     ensures read { Gives (λ x. (x.0, x.2.now)) result
         (climbing.operand 0 room limit words.now) }
     ensures depth { IfOk result (λ x. x.1 ≡ depth_of x.0) }
@@ -207,10 +202,9 @@ fn signed(
 fn atom(
     alloc: Global,
     room: usize,
-    limit: usize,
+    limit: u8,
     words: &[Word],
-) -> Result<(Expr, usize, &[Word]), ParseFault>
-    requires limit { limit ≤ 200 }
+) -> Result<(Expr, u8, &[Word]), ParseFault>
     requires least { 0 < limit }
     ensures read { Gives (λ x. (x.0, x.2.now)) result (climbing.atom_in room limit words.now) }
     ensures depth { IfOk result (λ x. x.1 ≡ depth_of x.0) }
@@ -242,10 +236,9 @@ fn atom(
 fn bracketed(
     alloc: Global,
     room: usize,
-    limit: usize,
+    limit: u8,
     words: &[Word],
-) -> Result<(Expr, usize, &[Word]), ParseFault>
-    requires { limit ≤ 200 }
+) -> Result<(Expr, u8, &[Word]), ParseFault>
     ensures read { Gives (λ x. (x.0, x.2.now)) result (climbing.bracketed room limit words.now) }
     ensures depth { IfOk result (λ x. x.1 ≡ depth_of x.0) }
     ensures fits { IfOk result (λ x. x.1 ≤ limit) }
@@ -261,12 +254,11 @@ fn bracketed(
 fn named<'a>(
     alloc: Global,
     room: usize,
-    limit: usize,
+    limit: u8,
     name: &Text,
     words: &'a [Word],
     rest: &'a [Word],
-) -> Result<(Expr, usize, &'a [Word]), ParseFault>
-    requires limit { limit ≤ 200 }
+) -> Result<(Expr, u8, &'a [Word]), ParseFault>
     requires least { 0 < limit }
     requires words { words.now ≡ word.Name keyword.Plain name.now ∷ rest.now }
     ensures read { Gives (λ x. (x.0, x.2.now)) result
@@ -286,11 +278,10 @@ fn named<'a>(
 fn call<'a>(
     alloc: Global,
     room: usize,
-    limit: usize,
+    limit: u8,
     function: &Text,
     words: &'a [Word],
-) -> Result<(Expr, usize, &'a [Word]), ParseFault>
-    requires { limit ≤ 200 }
+) -> Result<(Expr, u8, &'a [Word]), ParseFault>
     ensures read { Gives (λ x. (x.0, x.2.now)) result
         (climbing.call_of room limit function.now words.now) }
     ensures depth { IfOk result (λ x. x.1 ≡ depth_of x.0) }
@@ -308,10 +299,9 @@ fn call<'a>(
 fn arguments(
     alloc: Global,
     room: usize,
-    limit: usize,
+    limit: u8,
     words: &[Word],
-) -> Result<(List<Expr>, usize, &[Word]), ParseFault>
-    requires { limit ≤ 200 }
+) -> Result<(List<Expr>, u8, &[Word]), ParseFault>
     ensures read { Gives (λ x. (x.0, x.2.now)) result
         (climbing.arguments_in room limit words.now) }
     ensures depth { IfOk result (λ x. x.1 ≡ greatest (map depth_of x.0)) }
@@ -321,14 +311,14 @@ fn arguments(
         Some(rest) => return Ok((args, 0, rest)),
         None => {}
     }
-    let mut depth: usize = 0;
+    let mut depth: u8 = 0;
     let mut rest = words;
     for step in 0..words.len() {
         match within(alloc, room, limit, rest) {
             Ok((expr, own, behind)) => {
                 args.push(expr)?;
                 depth = depth.max(own);
-                match behind_item(behind) {
+                match behind_item(close(behind), behind) {
                     Next::End(end) => return Ok((args, depth, end)),
                     Next::More(next) => rest = next,
                     Next::Broken => return Err(ParseFault::NotExpr),
@@ -346,11 +336,10 @@ fn arguments(
 fn aggregate(
     alloc: Global,
     room: usize,
-    limit: usize,
+    limit: u8,
     op: AggregateOp,
     words: &[Word],
-) -> Result<(Expr, usize, &[Word]), ParseFault>
-    requires { limit ≤ 200 }
+) -> Result<(Expr, u8, &[Word]), ParseFault>
     ensures read { Gives (λ x. (x.0, x.2.now)) result
         (climbing.aggregate_in room limit op words.now) }
     ensures depth { IfOk result (λ x. x.1 ≡ depth_of x.0) }
@@ -372,10 +361,9 @@ fn aggregate(
 fn operands(
     alloc: Global,
     room: usize,
-    limit: usize,
+    limit: u8,
     words: &[Word],
-) -> Result<((List<Expr>, Expr, usize), &[Word]), ParseFault>
-    requires { limit ≤ 200 }
+) -> Result<((List<Expr>, Expr, u8), &[Word]), ParseFault>
     ensures read { Gives (λ x. ((x.0.0, x.0.1), x.1.now)) result
         (climbing.operands_in room limit words.now) }
     ensures depth { IfOk result

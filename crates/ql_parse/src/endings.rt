@@ -16,9 +16,9 @@ use std::alloc::Global;
 /// A tree, where its bracket closes behind it.
 pub(crate) fn closed(
     expr: Expr,
-    depth: usize,
+    depth: u8,
     words: &[Word],
-) -> Result<(Expr, usize, &[Word]), ParseFault>
+) -> Result<(Expr, u8, &[Word]), ParseFault>
     requires { depth ≡ depth_of expr }
     ensures read { Gives (λ x. (x.0, x.2.now)) result (terms.closed expr words.now) }
     ensures depth { IfOk result (λ x. x.1 ≡ depth_of x.0) }
@@ -37,9 +37,9 @@ pub(crate) fn closed(
 pub(crate) fn alone(
     alloc: Global,
     of: Expr,
-    depth: usize,
+    depth: u8,
     words: &[Word],
-) -> Result<((List<Expr>, Expr, usize), &[Word]), ParseFault>
+) -> Result<((List<Expr>, Expr, u8), &[Word]), ParseFault>
     requires { depth ≡ depth_of of }
     ensures read { Gives (λ x. ((x.0.0, x.0.1), x.1.now)) result
         (climbing.alone_in of words.now) }
@@ -60,9 +60,9 @@ pub(crate) fn both(
     alloc: Global,
     param: Expr,
     of: Expr,
-    depth: usize,
+    depth: u8,
     words: &[Word],
-) -> Result<((List<Expr>, Expr, usize), &[Word]), ParseFault>
+) -> Result<((List<Expr>, Expr, u8), &[Word]), ParseFault>
     requires { depth ≡ max (depth_of param) (depth_of of) }
     ensures read { Gives (λ x. ((x.0.0, x.0.1), x.1.now)) result
         (climbing.both_in param of words.now) }
@@ -82,12 +82,12 @@ pub(crate) fn both(
 pub(crate) fn grouped<'a>(
     alloc: Global,
     room: usize,
-    limit: usize,
+    limit: u8,
     op: AggregateOp,
     before: Option<Grouping>,
-    operands: (List<Expr>, Expr, usize),
+    operands: (List<Expr>, Expr, u8),
     words: &'a [Word],
-) -> Result<(Expr, usize, &'a [Word]), ParseFault>
+) -> Result<(Expr, u8, &'a [Word]), ParseFault>
     requires { operands.2 ≡ max (greatest (map depth_of operands.0)) (depth_of operands.1) }
     ensures read { Gives (λ x. (x.0, x.2.now)) result
         (climbing.grouped_in room limit op (operands.0, operands.1) before words.now) }

@@ -2,8 +2,9 @@ ghost use Rattle.std.specs.Prelude.{◌≡◌};
 ghost use Rattle.std.specs.Option.{option_map};
 ghost use Rattle.ql_tree.specs.Operators.{sign_of, matching_of, side_of, grouping_of};
 ghost use Rattle.ql_tree.specs.Selecting.{match_of};
-ghost use Rattle.ql_tree.specs.Spells.{is_open};
 ghost use Rattle.ql_tree.specs.Spells as spells;
+ghost use Rattle.ql_tree.specs.declared.word.Keyword.TheVariants as keyword;
+ghost use Rattle.ql_tree.specs.declared.word.Word.TheVariants as word;
 ghost use Rattle.ql_parse.specs.Found as found;
 ghost use Rattle.ql_parse.specs.FrontWords as spec;
 ghost use Rattle.ql_parse.specs.Next.{IsNext};
@@ -13,7 +14,7 @@ use ql_tree::{Keyword, Word};
 
 /// The words behind `(`, where it is the first.
 pub(crate) fn open(words: &[Word]) -> Option<&[Word]>
-    ensures { option_map (λ rest. rest.now) result ≡ found.behind is_open words.now }
+    ensures { option_map (λ rest. rest.now) result ≡ spec.beyond word.Open words.now }
 {
     match words {
         [Word::Open, rest @ ..] => Some(rest),
@@ -22,7 +23,7 @@ pub(crate) fn open(words: &[Word]) -> Option<&[Word]>
 }
 
 pub(crate) fn close(words: &[Word]) -> Option<&[Word]>
-    ensures { option_map (λ rest. rest.now) result ≡ found.behind spec.is_close words.now }
+    ensures { option_map (λ rest. rest.now) result ≡ spec.beyond word.Close words.now }
 {
     match words {
         [Word::Close, rest @ ..] => Some(rest),
@@ -31,7 +32,7 @@ pub(crate) fn close(words: &[Word]) -> Option<&[Word]>
 }
 
 pub(crate) fn comma(words: &[Word]) -> Option<&[Word]>
-    ensures { option_map (λ rest. rest.now) result ≡ found.behind spec.is_comma words.now }
+    ensures { option_map (λ rest. rest.now) result ≡ spec.beyond word.Comma words.now }
 {
     match words {
         [Word::Comma, rest @ ..] => Some(rest),
@@ -40,7 +41,7 @@ pub(crate) fn comma(words: &[Word]) -> Option<&[Word]>
 }
 
 pub(crate) fn open_brace(words: &[Word]) -> Option<&[Word]>
-    ensures { option_map (λ rest. rest.now) result ≡ found.behind spec.is_open_brace words.now }
+    ensures { option_map (λ rest. rest.now) result ≡ spec.beyond word.OpenBrace words.now }
 {
     match words {
         [Word::OpenBrace, rest @ ..] => Some(rest),
@@ -49,7 +50,7 @@ pub(crate) fn open_brace(words: &[Word]) -> Option<&[Word]>
 }
 
 pub(crate) fn close_brace(words: &[Word]) -> Option<&[Word]>
-    ensures { option_map (λ rest. rest.now) result ≡ found.behind spec.is_close_brace words.now }
+    ensures { option_map (λ rest. rest.now) result ≡ spec.beyond word.CloseBrace words.now }
 {
     match words {
         [Word::CloseBrace, rest @ ..] => Some(rest),
@@ -58,7 +59,7 @@ pub(crate) fn close_brace(words: &[Word]) -> Option<&[Word]>
 }
 
 pub(crate) fn open_square(words: &[Word]) -> Option<&[Word]>
-    ensures { option_map (λ rest. rest.now) result ≡ found.behind spec.is_open_square words.now }
+    ensures { option_map (λ rest. rest.now) result ≡ spec.beyond word.OpenSquare words.now }
 {
     match words {
         [Word::OpenSquare, rest @ ..] => Some(rest),
@@ -67,7 +68,7 @@ pub(crate) fn open_square(words: &[Word]) -> Option<&[Word]>
 }
 
 pub(crate) fn close_square(words: &[Word]) -> Option<&[Word]>
-    ensures { option_map (λ rest. rest.now) result ≡ found.behind spec.is_close_square words.now }
+    ensures { option_map (λ rest. rest.now) result ≡ spec.beyond word.CloseSquare words.now }
 {
     match words {
         [Word::CloseSquare, rest @ ..] => Some(rest),
@@ -76,7 +77,7 @@ pub(crate) fn close_square(words: &[Word]) -> Option<&[Word]>
 }
 
 pub(crate) fn minus(words: &[Word]) -> Option<&[Word]>
-    ensures { option_map (λ rest. rest.now) result ≡ found.behind spec.is_minus words.now }
+    ensures { option_map (λ rest. rest.now) result ≡ spec.beyond word.Minus words.now }
 {
     match words {
         [Word::Minus, rest @ ..] => Some(rest),
@@ -85,7 +86,7 @@ pub(crate) fn minus(words: &[Word]) -> Option<&[Word]>
 }
 
 pub(crate) fn offset_word(words: &[Word]) -> Option<&[Word]>
-    ensures { option_map (λ rest. rest.now) result ≡ found.behind spec.is_offset words.now }
+    ensures { option_map (λ rest. rest.now) result ≡ spec.beyond_keyword keyword.Offset words.now }
 {
     match words {
         [Word::Name(Keyword::Offset, _), rest @ ..] => Some(rest),
@@ -94,7 +95,7 @@ pub(crate) fn offset_word(words: &[Word]) -> Option<&[Word]>
 }
 
 pub(crate) fn bool_word(words: &[Word]) -> Option<&[Word]>
-    ensures { option_map (λ rest. rest.now) result ≡ found.behind spec.is_bool words.now }
+    ensures { option_map (λ rest. rest.now) result ≡ spec.beyond_keyword keyword.Bool words.now }
 {
     match words {
         [Word::Name(Keyword::Bool, _), rest @ ..] => Some(rest),
@@ -218,17 +219,18 @@ pub(crate) fn begins_open(words: &[Word]) -> bool
     }
 }
 
-/// What follows an argument.
+/// What follows an item of a list.
 pub(crate) enum Next<'a> {
     End(&'a [Word]),
     More(&'a [Word]),
     Broken,
 }
 
-pub(crate) fn behind_item(words: &[Word]) -> Next<'_>
-    ensures { IsNext words.now result }
+/// What follows an item, by the words behind the one that closes the list, if it stands there.
+pub(crate) fn behind_item<'a>(closed: Option<&'a [Word]>, words: &'a [Word]) -> Next<'a>
+    ensures { IsNext (option_map (λ rest. rest.now) closed.entry) words.now result }
 {
-    if let Some(rest) = close(words) {
+    if let Some(rest) = closed {
         return Next::End(rest);
     }
     match comma(words) {

@@ -9,6 +9,7 @@ mod endings;
 mod fault;
 mod fronts;
 mod keywords;
+mod lists;
 mod nodes;
 mod operators;
 mod parser;

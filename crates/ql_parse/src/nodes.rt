@@ -25,7 +25,7 @@ pub(crate) fn one(alloc: Global, expr: Expr) -> Result<List<Expr>, NoMemory>
 
 /// A number, with its depth.
 #[tactic(auto, using(crate::proofs::NodeDepths::depths_of_nodes))]
-pub(crate) fn number(n: i64) -> (Expr, usize)
+pub(crate) fn number(n: i64) -> (Expr, u8)
     ensures expr { result.0 ≡ expr.Number n }
     ensures depth { result.1 ≡ depth_of result.0 }
     ensures least { result.1 ≡ 1 }
@@ -35,7 +35,7 @@ pub(crate) fn number(n: i64) -> (Expr, usize)
 
 /// A string, with its depth.
 #[tactic(auto, using(crate::proofs::NodeDepths::depths_of_nodes))]
-pub(crate) fn string(alloc: Global, text: &Text) -> Result<(Expr, usize), NoMemory>
+pub(crate) fn string(alloc: Global, text: &Text) -> Result<(Expr, u8), NoMemory>
     ensures expr { IfOk result (λ x. x.0 ≡ expr.Str text.now) }
     ensures depth { IfOk result (λ x. x.1 ≡ depth_of x.0) }
     ensures least { IfOk result (λ x. x.1 ≡ 1) }
@@ -45,7 +45,7 @@ pub(crate) fn string(alloc: Global, text: &Text) -> Result<(Expr, usize), NoMemo
 }
 
 /// A selector, with its depth.
-pub(crate) fn select(alloc: Global, words: &[Word]) -> Result<(Expr, usize, &[Word]), ParseFault>
+pub(crate) fn select(alloc: Global, words: &[Word]) -> Result<(Expr, u8, &[Word]), ParseFault>
     ensures read { Gives (λ x. (x.0, x.2.now)) result (selectors.selector words.now) }
     ensures depth { IfOk result (λ x. x.1 ≡ depth_of x.0) }
     ensures least { IfOk result (λ x. x.1 ≡ 1) }
@@ -58,14 +58,9 @@ pub(crate) fn select(alloc: Global, words: &[Word]) -> Result<(Expr, usize, &[Wo
 
 /// The sign before a tree, with the depth of both.
 #[tactic(auto, using(crate::proofs::NodeDepths::depths_of_nodes))]
-pub(crate) fn unary(
-    alloc: Global,
-    minus: bool,
-    of: Expr,
-    depth: usize,
-) -> Result<(Expr, usize), NoMemory>
+pub(crate) fn unary(alloc: Global, minus: bool, of: Expr, depth: u8) -> Result<(Expr, u8), NoMemory>
     requires depth { depth ≡ depth_of of }
-    requires below { depth < 200 }
+    requires below { depth < 255 }
     ensures expr { IfOk result (λ x. x.0 ≡ expr.Unary minus (of ∷ [])) }
     ensures depth { IfOk result (λ x. x.1 ≡ depth_of x.0) }
     ensures more { IfOk result (λ x. x.1 ≡ depth + 1) }
@@ -78,14 +73,14 @@ pub(crate) fn unary(
 #[tactic(auto, using(crate::proofs::NodeDepths::depths_of_nodes))]
 pub(crate) fn binary<'a>(
     alloc: Global,
-    limit: usize,
+    limit: u8,
     op: BinaryOp,
     boolean: bool,
     matching: Option<Matching>,
-    left: (Expr, usize),
-    right: (Expr, usize),
+    left: (Expr, u8),
+    right: (Expr, u8),
     rest: &'a [Word],
-) -> Result<(Expr, usize, &'a [Word]), ParseFault>
+) -> Result<(Expr, u8, &'a [Word]), ParseFault>
     requires left { left.1 ≡ depth_of left.0 }
     requires right { right.1 ≡ depth_of right.0 }
     ensures read { Gives (λ x. (x.0, x.2.now)) result
@@ -142,11 +137,11 @@ fn one_each(alloc: Global, left: Expr, right: Expr) -> Result<(List<Expr>, List<
 #[tactic(auto, using(crate::proofs::NodeDepths::depths_of_nodes))]
 pub(crate) fn called<'a>(
     alloc: Global,
-    limit: usize,
+    limit: u8,
     function: &Text,
-    args: (List<Expr>, usize),
+    args: (List<Expr>, u8),
     rest: &'a [Word],
-) -> Result<(Expr, usize, &'a [Word]), ParseFault>
+) -> Result<(Expr, u8, &'a [Word]), ParseFault>
     requires { args.1 ≡ greatest (map depth_of args.0) }
     ensures read { Gives (λ x. (x.0, x.2.now)) result
         (fitting limit (expr.Call function.now args.0) rest.now) }
@@ -165,12 +160,12 @@ pub(crate) fn called<'a>(
 #[tactic(auto, using(crate::proofs::NodeDepths::depths_of_nodes))]
 pub(crate) fn aggregated<'a>(
     alloc: Global,
-    limit: usize,
+    limit: u8,
     op: AggregateOp,
     grouping: Option<Grouping>,
-    operands: (List<Expr>, Expr, usize),
+    operands: (List<Expr>, Expr, u8),
     rest: &'a [Word],
-) -> Result<(Expr, usize, &'a [Word]), ParseFault>
+) -> Result<(Expr, u8, &'a [Word]), ParseFault>
     requires { operands.2 ≡ max (greatest (map depth_of operands.0)) (depth_of operands.1) }
     ensures read { Gives (λ x. (x.0, x.2.now)) result
         (fitting limit (expr.Aggregate op grouping operands.0 (operands.1 ∷ [])) rest.now) }

@@ -1,17 +1,18 @@
-ghost use Rattle.std.specs.Prelude.{◌≡◌, length, Some, IfOk};
+ghost use Rattle.std.specs.Prelude.{◌≡◌, Some, IfOk};
 ghost use Rattle.std.specs.List.{list_any};
 ghost use Rattle.ql_tree.specs.Children.{depth_of};
 ghost use Rattle.ql_tree.specs.Selecting.{is_on_name};
+ghost use Rattle.ql_tree.specs.declared.word.Word.TheVariants as word;
 ghost use Rattle.ql_parse.specs.Gives.{Gives};
-ghost use Rattle.ql_parse.specs.MatcherStep.{IsMatcherStep, IsBehindMatcher};
 ghost use Rattle.ql_parse.specs.ReadSelectors as reading;
 
 use crate::fault::ParseFault;
 use crate::fronts::{
-    close_brace, close_square, comma, duration, label, match_op, minus, offset_word, open_brace,
+    close_brace, close_square, duration, label, match_op, minus, offset_word, open_brace,
     open_square, plain, quoted,
 };
-use op_base::{List, Matcher, NoMemory, Span, Text};
+use crate::lists::{Item, comma_list};
+use op_base::{List, Matcher, Span, Text};
 use ql_tree::{Expr, Word};
 use std::alloc::Global;
 
@@ -34,63 +35,18 @@ fn matcher(alloc: Global, words: &[Word]) -> Result<(Matcher, &[Word]), ParseFau
     Ok((Matcher { name, op, value }, rest))
 }
 
-enum Step<'a> {
-    /// No matcher is left.
-    End(&'a [Word]),
-    Last(Matcher, &'a [Word]),
-    More(Matcher, &'a [Word]),
-    Broken,
-}
+impl Item for Matcher {
+    ghost closing = { word.CloseBrace };
 
-/// The next matcher, and what follows it.
-#[tactic(auto, unfolding(crate::specs::ReadSelectors::matchers))]
-fn next_matcher(alloc: Global, words: &[Word]) -> Result<Step<'_>, NoMemory>
-    ensures { IfOk result (IsMatcherStep words.now) }
-{
-    if let Some(rest) = close_brace(words) {
-        return Ok(Step::End(rest));
-    }
-    match matcher(alloc, words) {
-        Ok((one, rest)) => Ok(behind_matcher(one, rest)),
-        Err(ParseFault::NotExpr) => Ok(Step::Broken),
-        Err(ParseFault::NoMemory) => Err(NoMemory),
-    }
-}
+    ghost reading = { reading.matcher };
 
-fn behind_matcher(one: Matcher, words: &[Word]) -> Step<'_>
-    ensures { IsBehindMatcher one words.now result }
-{
-    if let Some(rest) = close_brace(words) {
-        return Step::Last(one, rest);
+    fn close(words: &[Word]) -> Option<&[Word]> {
+        close_brace(words)
     }
-    match comma(words) {
-        Some(rest) => Step::More(one, rest),
-        None => Step::Broken,
-    }
-}
 
-/// Matchers with a comma between each two and perhaps one behind the last, and the brace that
-/// closes them.
-fn matchers(alloc: Global, words: &[Word]) -> Result<(List<Matcher>, &[Word]), ParseFault>
-    ensures { Gives (λ x. (x.0, x.1.now)) result (reading.matchers (length words.now) words.now) }
-{
-    let mut found = List::new(alloc);
-    let mut rest = words;
-    for step in 0..words.len() {
-        match next_matcher(alloc, rest)? {
-            Step::End(behind) => return Ok((found, behind)),
-            Step::Last(one, behind) => {
-                found.push(one)?;
-                return Ok((found, behind));
-            }
-            Step::More(one, behind) => {
-                found.push(one)?;
-                rest = behind;
-            }
-            Step::Broken => return Err(ParseFault::NotExpr),
-        }
+    fn read(alloc: Global, words: &[Word]) -> Result<(Matcher, &[Word]), ParseFault> {
+        matcher(alloc, words)
     }
-    Err(ParseFault::NotExpr)
 }
 
 #[tactic(auto, unfolding(crate::specs::ReadSelectors::braces))]
@@ -98,7 +54,7 @@ fn braces(alloc: Global, words: &[Word]) -> Result<(List<Matcher>, &[Word]), Par
     ensures { Gives (λ x. (x.0, x.1.now)) result (reading.braces words.now) }
 {
     match open_brace(words) {
-        Some(rest) => matchers(alloc, rest),
+        Some(rest) => comma_list(alloc, rest),
         None => Err(ParseFault::NotExpr),
     }
 }

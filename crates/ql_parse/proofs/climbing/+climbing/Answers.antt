@@ -1,4 +1,5 @@
 use Rattle.std.proofs.Common.{◌∙◌, length, Some, sym, ap, subst, arith}
+use Rattle.ql_tree.specs.declared.word.Word.TheVariants as word
 use Rattle.ql_parse.specs.Climbing.{operand}
 use Rattle.ql_parse.specs.Found.{◌>>=◌}
 use Rattle.ql_parse.specs.Gives.{Gives, Lacks}
@@ -7,7 +8,7 @@ use Rattle.ql_parse.specs.ReadSelectors.{selector}
 use Rattle.std.proofs.lemmas.Result.{IfOk-weaker}
 use Rattle.ql_parse.specs.ReadTerms.{arguments, closed}
 use Rattle.ql_parse.specs.Reading.{right, within, under_sign}
-use Rattle.ql_parse.proofs.ListSteps.{last_one, broken_here, one_more, no_turns}
+use Rattle.ql_parse.proofs.ListSteps.{no_turns, no_item, last_one, no_comma, one_more}
 use Rattle.ql_parse.proofs.Steps as steps
 use Rattle.ql_parse.proofs.climbing.+climbing.Goals as goal
 
@@ -148,13 +149,14 @@ arguments-returns-in-Some-clause-read t c =
 pub arguments-returns-in-End-clause-read : goal.arguments-returns-in-End-clause-read
 arguments-returns-in-End-clause-read t c =
     steps.arguments_some c.args.room c.args.limit c.args.words.now (sym c.in-None.ensures)
-    ∙ last_one (λ m. arguments m (within c.args.room c.args.limit)) _ c.loop-step.args
-    (length c.args.words.now) c.loop-step.step
-    c.loop-step.rest.now c.loop-step.invariant.read c.in-Ok.expr c.push.new.self c.in-End.end.now
-    c.loop-step-test.true
-    (steps.argument_last c.args.room c.args.limit c.loop-step.rest.now c.in-Ok.behind.now
-    c.in-Ok.expr c.in-Ok.ensures.read
-    c.in-End.end.now c.in-End.ensures) c.in_ok-push-in-Ok.ensures.ok
+    ∙ last_one
+    (λ m. arguments m (within c.args.room c.args.limit)) _ c.loop-step.args
+    (length c.args.words.now) c.loop-step.step c.loop-step.rest.now c.loop-step.invariant.read
+    word.Close (within c.args.room c.args.limit) c.loop-step-test.true
+    (steps.arguments_read c.args.room c.args.limit c.loop-step.rest.now)
+    c.in-Ok.expr c.in-Ok.behind.now c.in-Ok.ensures.read
+    c.push.new.self c.in-End.end.now c.in_ok-push-in-Ok.ensures.ok
+    (sym c.close-in-Ok.ensures ∙ c.in-End.ensures)
 
 pub arguments-returns-in-End-clause-depth : goal.arguments-returns-in-End-clause-depth
 arguments-returns-in-End-clause-depth t c =
@@ -166,29 +168,35 @@ arguments-returns-in-End-clause-depth t c =
 pub arguments-returns-in-Broken-clause-read : goal.arguments-returns-in-Broken-clause-read
 arguments-returns-in-Broken-clause-read t c =
     steps.arguments_some c.args.room c.args.limit c.args.words.now (sym c.in-None.ensures)
-    ∙ broken_here (λ m. arguments m (within c.args.room c.args.limit)) _ c.loop-step.args
-    (length c.args.words.now) c.loop-step.step
-    c.loop-step.rest.now c.loop-step.invariant.read c.loop-step-test.true
-    (steps.argument_broken c.args.room c.args.limit c.loop-step.rest.now c.in-Ok.behind.now
-    c.in-Ok.expr c.in-Ok.ensures.read
-    c.in-Broken.ensures.0 c.in-Broken.ensures.1)
+    ∙ no_comma
+    (λ m. arguments m (within c.args.room c.args.limit)) _ c.loop-step.args
+    (length c.args.words.now) c.loop-step.step c.loop-step.rest.now c.loop-step.invariant.read
+    word.Close (within c.args.room c.args.limit) c.loop-step-test.true
+    (steps.arguments_read c.args.room c.args.limit c.loop-step.rest.now)
+    c.in-Ok.expr c.in-Ok.behind.now c.in-Ok.ensures.read
+    (sym c.close-in-Ok.ensures ∙ c.in-Broken.ensures.0) c.in-Broken.ensures.1
 
 pub arguments-returns-in-Err-clause-read : goal.arguments-returns-in-Err-clause-read
 arguments-returns-in-Err-clause-read t c =
-    steps.argument_fault c.in-Err.fault c.args.room c.args.limit (length c.args.words.now)
-    c.loop-step.step c.args.words.now c.loop-step.rest.now
-    c.loop-step.args (sym c.in-None.ensures) c.loop-step.invariant.read c.loop-step-test.true
-    c.in-Err.ensures.read
+    subst (λ read. Lacks c.in-Err.fault read)
+    (sym (steps.arguments_some c.args.room c.args.limit c.args.words.now (sym c.in-None.ensures)))
+    (no_item
+    (λ m. arguments m (within c.args.room c.args.limit)) _ c.loop-step.args
+    (length c.args.words.now) c.loop-step.step c.loop-step.rest.now c.loop-step.invariant.read
+    word.Close (within c.args.room c.args.limit) c.loop-step-test.true
+    (steps.arguments_read c.args.room c.args.limit c.loop-step.rest.now)
+    c.in-Err.fault c.in-Err.ensures.read)
 
 pub arguments-loop-step-preserved : goal.arguments-loop-step-preserved
 arguments-loop-step-preserved t c = record {
-  read = one_more (λ m. arguments m (within c.args.room c.args.limit)) _ c.loop-step.args
-      (length c.args.words.now) c.loop-step.step
-      c.loop-step.rest.now c.loop-step.invariant.read c.in-Ok.expr c.push.new.self
-      c.in-More.next.now c.loop-step-test.true
-      (steps.argument_more c.args.room c.args.limit c.loop-step.rest.now c.in-Ok.behind.now
-      c.in-Ok.expr c.in-Ok.ensures.read
-      c.in-More.next.now c.in-More.ensures.0 c.in-More.ensures.1) c.in_ok-push-in-Ok.ensures.ok;
+  read = one_more
+      (λ m. arguments m (within c.args.room c.args.limit)) _ c.loop-step.args
+      (length c.args.words.now) c.loop-step.step c.loop-step.rest.now c.loop-step.invariant.read
+      word.Close (within c.args.room c.args.limit) c.loop-step-test.true
+      (steps.arguments_read c.args.room c.args.limit c.loop-step.rest.now)
+      c.in-Ok.expr c.in-Ok.behind.now c.in-Ok.ensures.read
+      c.push.new.self c.in-More.next.now c.in_ok-push-in-Ok.ensures.ok
+      (sym c.close-in-Ok.ensures ∙ c.in-More.ensures.0) c.in-More.ensures.1;
   depth = c.max-depth.ensures
       ∙ steps.depth_pushed c.loop-step.args c.push.new.self c.in-Ok.expr c.loop-step.depth
       c.in-Ok.own c.in_ok-push-in-Ok.ensures.ok

@@ -11,13 +11,13 @@ abbrev pub decreases-within : goal.decreases-within
 decreases-within l = 1000 * l.room
 
 abbrev pub decreases-level : goal.decreases-level
-decreases-level l = 1000 * l.room + 300 + 10 * l.top
+decreases-level l = 1000 * l.room + 400 + 10 * l.top
 
 abbrev pub decreases-chain : goal.decreases-chain
-decreases-chain l = 1000 * l.room + 300 + 10 * l.below + 5
+decreases-chain l = 1000 * l.room + 400 + 10 * l.below + 5
 
 abbrev pub decreases-right : goal.decreases-right
-decreases-right l = 1000 * l.room + 300 + 10 * l.below + 3
+decreases-right l = 1000 * l.room + 400 + 10 * l.below + 3
 
 abbrev pub decreases-signed : goal.decreases-signed
 decreases-signed l = 1000 * l.room + 50 + l.limit
