@@ -73,11 +73,6 @@ told_of a b r text well taken now P so told = told_so a b (λ bytes after. Input
 pub memory_causes : (source sink : ℕ) → RunCauses (Err Memory) source source sink sink
 memory_causes source sink = record { input = λ is. absurd (cc); output = λ is. absurd (cc); later_input = omega arith; later_output = omega arith }
 
--- memory was wanted later
-pub late_causes : (source source_now sink sink_now : ℕ) → source ≤ source_now → sink ≤ sink_now → RunCauses (Err Memory) source source_now sink sink_now
-late_causes source source_now sink sink_now later_input later_output =
-    record { input = λ is. absurd (cc); output = λ is. absurd (cc); later_input = later_input; later_output = later_output }
-
 -- no line is left
 pub end_causes : (good : Bool) (s0 s1 s2 o0 o1 o2 : ℕ) → s0 ≤ s1 → o0 ≤ o1 → NextCauses Ends s1 s2 o1 o2 → RunCauses (Ok good) s0 s2 o0 o2
 end_causes good s0 s1 s2 o0 o1 o2 later_input later_output causes = record {

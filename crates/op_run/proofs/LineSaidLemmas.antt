@@ -1,5 +1,5 @@
 -- One more line of an input: what it came to, by what reading and saying it came to.
-use Rattle.std.proofs.Common.{◌≡◌, ℕ, ◌+◌, ◌<◌, ◌≤◌, Bool, true, List, [], ◌∷◌, ◌++◌, length, Option, Result, Ok, Err, IfOk, OnOk, IfErr, OnErr, refl, sym, ap, subst, ◌∙◌, arith}
+use Rattle.std.proofs.Common.{◌≡◌, ℕ, ◌+◌, ◌^◌, ◌<◌, ◌≤◌, Bool, true, List, [], ◌∷◌, ◌++◌, length, Option, Result, Ok, Err, IfOk, OnOk, IfErr, OnErr, refl, sym, ap, subst, ◌∙◌, arith}
 use Rattle.std.specs.Io.KnownBytes.{Appends}
 use Rattle.op_edges.specs.Causes.{Rose}
 use Rattle.op_edges.specs.declared.lines.Line.{Line}
@@ -76,6 +76,14 @@ line_going server next read (Ok well) n is going config =
     subst (λ (m : Next). IfMore m (λ well. (read.going ≡ true) × (next.config ≡ server.config))) (sym is) (going, config)
 line_going server next read (Err stop) n is going config =
     subst (λ (m : Next). IfMore m (λ well. (read.going ≡ true) × (next.config ≡ server.config))) (sym is) tt
+
+-- one line more was given, and their count has 64 bits
+pub line_counted : (reader read : Reading) (number : ℕ) (r : Result Bool Stop) (n : Next) → n ≡ next_of_result r → read.line ≡ reader.line + 1 → number ≡ read.line → number < 2 ^ 64
+    → IfMore n (λ well. (read.line ≡ reader.line + 1) × (read.line < 2 ^ 64))
+line_counted reader read number (Ok well) n is counted numbered fits =
+    subst (λ (m : Next). IfMore m (λ well. (read.line ≡ reader.line + 1) × (read.line < 2 ^ 64))) (sym is) (counted, subst (λ k. k < 2 ^ 64) numbered fits)
+line_counted reader read number (Err stop) n is counted numbered fits =
+    subst (λ (m : Next). IfMore m (λ well. (read.line ≡ reader.line + 1) × (read.line < 2 ^ 64))) (sym is) tt
 
 -- what stops a line that was read, is its writing
 pub line_causes : (r : Result Bool Stop) (n : Next) (source source_now sink sink_now : ℕ) → n ≡ next_of_result r → IfErr r IsWriting

@@ -10,11 +10,10 @@ use Rattle.srv_run.specs.Served.{Served, Serving}
 use Rattle.op_run.specs.Lines.{said_by, served_by, all_said}
 use Rattle.op_run.specs.declared.lines.Next.TheVariants.{More, Ends, Stops}
 use Rattle.op_run.specs.declared.stop.Stop.{Stop}
-use Rattle.op_run.specs.declared.stop.Stop.TheVariants.{Memory}
 use Rattle.op_run.specs.InputRuns.{InputRan}
 use Rattle.op_run.specs.LineRuns.{LineRan, OneMore, LinesRan}
 use Rattle.op_run.specs.WellAnswered.{all_well}
-use Rattle.op_run.proofs.ReportLemmas.{and_assoc, and_true, bytes-append, well-append, none_is_prefix}
+use Rattle.op_run.proofs.ReportLemmas.{and_assoc, and_true, bytes-append, well-append}
 
 -- no line was run
 pub lines_begin : (config : Config) (start : Served) (all : List ℕ) (told : Option (List ℕ)) → LinesRan config start all told told start 0 all true
@@ -63,12 +62,6 @@ pub lines_stopped : (config : Config) (start : Served) (all : List ℕ) (a b c :
 lines_stopped config start all a b c served count coming good ran part =
     subst (AppendsPrefix a c) (sym ran.lines)
     (prefix_after a b c ran.done (report_bytes (all_said config served count (shown_lines coming))) ran.written part)
-
--- what is written so far is a part of all
-pub lines_part : (config : Config) (start : Served) (all : List ℕ) (a b : Option (List ℕ)) (served : Served) (count : ℕ) (coming : List ℕ) (good : Bool)
-    → LinesRan config start all a b served count coming good → AppendsPrefix a b (report_bytes (all_said config start 0 (shown_lines all)))
-lines_part config start all a b served count coming good ran =
-    lines_stopped config start all a b b served count coming good ran (none_is_prefix b (report_bytes (all_said config served count (shown_lines coming))))
 
 -- a reader that took nothing stands before all lines
 pub lines_begin_at : (config : Config) (start : Served) (all : List ℕ) (told : Option (List ℕ)) (reader : Reading) → reader ≡ new_reading
@@ -125,11 +118,4 @@ module _ (start server : Serving) (reader : Reading) (a b : Option (List ℕ)) (
     part = lines_stopped start.config start.served all a b c server.served reader.line (reader.held ++ coming) good so_far.0
         (subst (λ config. AppendsPrefix b c (report_bytes (all_said config server.served reader.line (shown_lines (reader.held ++ coming))))) config within.part);
     limit = λ is. subst (λ n. most_bytes + length left < n) so_far.1 (within.limit is);
-  }
-
-  -- more lines than can be counted
-  pub lines_out : InputRan (Err Memory) (report_bytes (all_said start.config start.served 0 (shown_lines all))) (all_well (all_said start.config start.served 0 (shown_lines all))) a b all coming
-  lines_out = record {
-    part = lines_part start.config start.served all a b server.served reader.line (reader.held ++ coming) good so_far.0;
-    limit = λ is. absurd (cc);
   }

@@ -15,7 +15,8 @@ use crate::configuration::configuration;
 use crate::files::NamedFile;
 use crate::folder::report_files;
 use crate::stop::Stop;
-use op_edges::{Sink, put_all};
+use op_base::NoMemory;
+use op_edges::{Failed, Sink, put_all};
 use op_thin::Objects;
 use srv_run::Server;
 use std::alloc::Global;
@@ -46,7 +47,7 @@ pub fn compile_files<O: Sink, E: Sink>(
 {
     match Server::new(alloc) {
         Ok(mut server) => compile_with(alloc, files, &mut server, out, err),
-        Err(_) => Err(Stop::Memory),
+        Err(NoMemory) => Err(Stop::Memory),
     }
 }
 
@@ -97,8 +98,8 @@ fn write_configuration<O: Sink>(alloc: Global, objects: Objects, out: &mut O) ->
     match configuration(alloc, objects) {
         Ok((_, bytes)) => match put_all(out, bytes.as_slice()) {
             Ok(()) => Ok(()),
-            Err(_) => Err(Stop::Output),
+            Err(Failed) => Err(Stop::Output),
         },
-        Err(_) => Err(Stop::Memory),
+        Err(NoMemory) => Err(Stop::Memory),
     }
 }

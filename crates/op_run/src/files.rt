@@ -4,9 +4,9 @@ ghost use Rattle.op_edges.specs.Causes.{Rose};
 ghost use Rattle.op_edges.specs.Folders.{file_of};
 ghost use Rattle.op_run.specs.Folders as spec;
 
-use op_base::{List, Text};
+use op_base::{List, NoMemory, Text};
 use op_edges::{FileRead, Folder, FolderError};
-use std::alloc::Global;
+use std::alloc::{AllocError, Global};
 
 /// The most bytes that the manifests of a folder may have together.
 pub const MOST_FILE_BYTES: usize = 67_108_864;
@@ -126,9 +126,9 @@ fn keep(
     match name.clone() {
         Ok(name) => match files.push(NamedFile { name, bytes }) {
             Ok(()) => Ok(left),
-            Err(_) => Err(Trouble::Memory),
+            Err(NoMemory) => Err(Trouble::Memory),
         },
-        Err(_) => Err(Trouble::Memory),
+        Err(AllocError) => Err(Trouble::Memory),
     }
 }
 

@@ -13,6 +13,7 @@ use crate::files::NamedFile;
 use crate::manifest::take_file;
 use crate::reports::{both, write_report};
 use crate::stop::Stop;
+use op_base::NoMemory;
 use op_edges::Sink;
 use op_thin::Objects;
 use srv_run::Server;
@@ -72,6 +73,6 @@ fn report_file<O: Sink>(
 {
     match take_file(alloc, file, objects, server) {
         Ok(report) => write_report(alloc, &report, sink),
-        Err(_) => Err(Stop::Memory),
+        Err(NoMemory) => Err(Stop::Memory),
     }
 }

@@ -45,7 +45,7 @@ pub fn say_whole<O: Sink>(
 {
     match take_line(alloc, number, bytes, server) {
         Ok(reports) => write_reports(alloc, reports.as_slice(), sink),
-        Err(_) => Err(Stop::Memory),
+        Err(NoMemory) => Err(Stop::Memory),
     }
 }
 
@@ -63,7 +63,7 @@ pub fn say_long<O: Sink>(alloc: Global, number: u64, sink: &mut O) -> Result<boo
 {
     match to_all(alloc, View::Long { line: number }) {
         Ok(reports) => write_reports(alloc, reports.as_slice(), sink),
-        Err(_) => Err(Stop::Memory),
+        Err(NoMemory) => Err(Stop::Memory),
     }
 }
 
@@ -121,7 +121,8 @@ fn take_page(event: Event, server: &mut Server) -> Result<List<Report>, NoMemory
 {
     match server.event(&event) {
         Ok(reports) => Ok(reports),
-        Err(_) => Err(NoMemory),
+        Err(EventFault::NoMemory) => Err(NoMemory),
+        Err(EventFault::LateTick(_)) => unreachable!(),
     }
 }
 

@@ -1,4 +1,4 @@
-ghost use Rattle.std.specs.Prelude.{◌≡◌, true};
+ghost use Rattle.std.specs.Prelude.{◌≡◌, ◌+◌, ◌<◌, ◌^◌, true};
 ghost use Rattle.op_edges.specs.Told.{Told};
 ghost use Rattle.op_edges.specs.Lines.{shown_lines};
 ghost use Rattle.op_report.specs.ReadBack.{report_bytes};
@@ -10,6 +10,7 @@ ghost use Rattle.op_run.specs.WellAnswered.{all_well};
 use crate::input::{say_long, say_whole};
 use crate::reports::both;
 use crate::stop::Stop;
+use op_base::NoMemory;
 use op_edges::{Line, LineReader, Sink, Source};
 use srv_run::Server;
 use std::alloc::Global;
@@ -32,17 +33,16 @@ pub fn run_lines<S: Source, O: Sink>(
 {
     let mut reader = match LineReader::new(alloc) {
         Ok(reader) => reader,
-        Err(_) => return Err(Stop::Memory),
+        Err(NoMemory) => return Err(Stop::Memory),
     };
     let mut good = true;
-    for _ in 0..u64::MAX {
+    loop {
         match run_line(alloc, &mut reader, source, server, sink) {
             Next::More(well) => good = both(good, well),
             Next::Ends => return Ok(good),
             Next::Stops(stop) => return Err(stop),
         }
     }
-    Err(Stop::Memory)
 }
 
 /// What running one more line came to.
@@ -67,6 +67,8 @@ fn run_line<S: Source, O: Sink>(
         (O.taken sink.old) (O.taken sink.new) before after) }
     ensures going { IfMore result (λ well. (reader.new.going ≡ true)
         × (server.new.config ≡ server.old.config)) }
+    ensures counted { IfMore result (λ well. (reader.new.line ≡ reader.old.line + 1)
+        × (reader.new.line < 2 ^ 64)) }
     ensures causes { NextCauses result (S.faults source.old) (S.faults source.new)
         (O.faults sink.old) (O.faults sink.new) }
 {
@@ -82,7 +84,7 @@ fn run_line<S: Source, O: Sink>(
         Ok(Line::End) => Next::Ends,
         Ok(Line::Fault) => Next::Stops(Stop::Input),
         Ok(Line::Limit) => Next::Stops(Stop::Limit),
-        Err(_) => Next::Stops(Stop::Memory),
+        Err(NoMemory) => Next::Stops(Stop::Memory),
     }
 }
 

@@ -12,7 +12,7 @@ use crate::files::NamedFile;
 use op_base::{Key, Kind, List, NoMemory, Text};
 use op_report::{Report, View};
 use op_thin::{Item, Objects, ThinProbe, ThinRule, item_of};
-use srv_run::{Event, Server};
+use srv_run::{Event, EventFault, Server};
 use std::alloc::Global;
 
 /// Where a thin rule's expression stands.
@@ -116,7 +116,8 @@ fn make_known(server: &mut Server, namespace: Text) -> Result<(), NoMemory>
 {
     match server.event(&Event::Known(namespace)) {
         Ok(_) => Ok(()),
-        Err(_) => Err(NoMemory),
+        Err(EventFault::NoMemory) => Err(NoMemory),
+        Err(EventFault::LateTick(_)) => unreachable!(),
     }
 }
 

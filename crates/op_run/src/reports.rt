@@ -9,7 +9,8 @@ ghost use Rattle.op_run.specs.WellAnswered.{is_well, all_well};
 ghost use Rattle.op_run.specs.Stops.{IsWriting};
 
 use crate::stop::Stop;
-use op_edges::{Sink, put_all};
+use op_base::NoMemory;
+use op_edges::{Failed, Sink, put_all};
 use op_report::{Report, answers_well, report_line};
 use std::alloc::Global;
 
@@ -58,10 +59,10 @@ pub fn write_report<O: Sink>(alloc: Global, report: &Report, sink: &mut O) -> Re
 {
     let line = match report_line(alloc, report) {
         Ok(line) => line,
-        Err(_) => return Err(Stop::Memory),
+        Err(NoMemory) => return Err(Stop::Memory),
     };
     match put_all(sink, line.as_slice()) {
         Ok(()) => Ok(answers_well(&report.view)),
-        Err(_) => Err(Stop::Output),
+        Err(Failed) => Err(Stop::Output),
     }
 }

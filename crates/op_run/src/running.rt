@@ -21,7 +21,7 @@ use crate::lines::run_lines;
 use crate::reports::both;
 use crate::stop::Stop;
 use op_base::{List, NoMemory};
-use op_edges::{Sink, Source, put_all};
+use op_edges::{Failed, Sink, Source, put_all};
 use op_thin::Objects;
 use srv_run::Server;
 use std::alloc::Global;
@@ -71,7 +71,7 @@ fn files_and_input<S: Source, O: Sink>(
 {
     match Server::new(alloc) {
         Ok(mut server) => run_both(alloc, files, &mut server, input, out),
-        Err(_) => Err(Stop::Memory),
+        Err(NoMemory) => Err(Stop::Memory),
     }
 }
 
@@ -118,7 +118,7 @@ fn run_configured<S: Source, O: Sink>(
 {
     match load(alloc, objects, server) {
         Ok(text) => run_loaded(alloc, server, text.as_slice(), input, out),
-        Err(_) => Err(Stop::Memory),
+        Err(NoMemory) => Err(Stop::Memory),
     }
 }
 
@@ -150,7 +150,7 @@ fn run_loaded<S: Source, O: Sink>(
     match run_lines(alloc, input, server, out) {
         Ok(good) => match put_all(out, text) {
             Ok(()) => Ok(good),
-            Err(_) => Err(Stop::Output),
+            Err(Failed) => Err(Stop::Output),
         },
         Err(stop) => Err(stop),
     }

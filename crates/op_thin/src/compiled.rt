@@ -15,7 +15,7 @@ use crate::rule::ThinRule;
 use cfg_types::{Config, Group, Job, PromPart, Rule, RuleFile, StaticConfig, file_text};
 use op_base::{List, NoMemory, Span, Table, Tags, Text};
 use op_relabel::Step;
-use ql_rewrite::enforce;
+use ql_rewrite::{EnforceFault, enforce};
 use ql_tree::Expr;
 use std::alloc::Global;
 
@@ -191,7 +191,8 @@ fn enforced_expr(alloc: Global, tree: &Expr, namespace: &Text) -> Result<Expr, N
 {
     match enforce(alloc, tree, ENFORCED_LABEL, namespace.as_str(), false) {
         Ok(expr) => Ok(expr),
-        Err(_) => Err(NoMemory),
+        Err(EnforceFault::NoMemory) => Err(NoMemory),
+        Err(EnforceFault::Conflict(_)) => unreachable!(),
     }
 }
 

@@ -5,7 +5,7 @@ use Rattle.op_edges.proofs.ToldLemmas.{told_so, told_both}
 use Rattle.op_run.specs.declared.stop.Stop.TheVariants.{Input, Limit, Memory}
 use Rattle.op_run.specs.declared.lines.Next.TheVariants.{Ends, Stops}
 use Rattle.op_run.specs.LineRuns.{LineRan}
-use Rattle.op_run.proofs.LineSaidLemmas.{on_ok, line_ran, line_ends, line_stops, line_going, line_causes, end_causes, stop_causes}
+use Rattle.op_run.proofs.LineSaidLemmas.{on_ok, line_ran, line_ends, line_stops, line_going, line_counted, line_causes, end_causes, stop_causes}
 use Rattle.op_run.proofs.lines.run_line.Goals as goal
 
 pub returns-in-Ok-Whole-clause-ran : goal.returns-in-Ok-Whole-clause-ran
@@ -25,6 +25,10 @@ returns-in-Ok-Whole-clause-ran g c = told_both (g.S.Source.left c.args.source.no
 pub returns-in-Ok-Whole-clause-going : goal.returns-in-Ok-Whole-clause-going
 returns-in-Ok-Whole-clause-going g c = line_going c.args.server.now c.say_whole.new.server c.next.new.self c.say_whole.result c.next_of.result c.next_of.ensures
     (c.in-Ok-Whole.ensures.going ∙ ap is_line c.in-Ok-Whole.field-0-is) c.say_whole.ensures.config
+
+pub returns-in-Ok-Whole-clause-counted : goal.returns-in-Ok-Whole-clause-counted
+returns-in-Ok-Whole-clause-counted g c = line_counted c.args.reader.now c.next.new.self c.line.result c.say_whole.result c.next_of.result c.next_of.ensures
+    (c.in-Ok-Whole.ensures.line ∙ ap (λ line. c.args.reader.now.line + count_of line) c.in-Ok-Whole.field-0-is) c.line.ensures (omega arith)
 
 pub returns-in-Ok-Whole-clause-causes : goal.returns-in-Ok-Whole-clause-causes
 returns-in-Ok-Whole-clause-causes g c = line_causes c.say_whole.result c.next_of.result
@@ -49,6 +53,10 @@ pub returns-in-Ok-Long-clause-going : goal.returns-in-Ok-Long-clause-going
 returns-in-Ok-Long-clause-going g c = line_going c.args.server.now c.args.server.now c.next.new.self c.say_long.result c.next_of-in-Ok-Long.result c.next_of-in-Ok-Long.ensures
     (c.in-Ok-Long.ensures.going ∙ ap is_line c.in-Ok-Long.field-0-is)
     (on_ok c.say_long.result (c.args.server.now.config ≡ c.args.server.now.config) refl)
+
+pub returns-in-Ok-Long-clause-counted : goal.returns-in-Ok-Long-clause-counted
+returns-in-Ok-Long-clause-counted g c = line_counted c.args.reader.now c.next.new.self c.line-in-Ok-Long.result c.say_long.result c.next_of-in-Ok-Long.result c.next_of-in-Ok-Long.ensures
+    (c.in-Ok-Long.ensures.line ∙ ap (λ line. c.args.reader.now.line + count_of line) c.in-Ok-Long.field-0-is) c.line-in-Ok-Long.ensures (omega arith)
 
 pub returns-in-Ok-Long-clause-causes : goal.returns-in-Ok-Long-clause-causes
 returns-in-Ok-Long-clause-causes g c = line_causes c.say_long.result c.next_of-in-Ok-Long.result

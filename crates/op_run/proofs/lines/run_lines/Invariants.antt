@@ -1,10 +1,10 @@
-use Rattle.std.proofs.Common.{◌≡◌, ◌+◌, ◌≤◌, ◌++◌, true, length}
+use Rattle.std.proofs.Common.{◌≡◌, ◌+◌, ◌-◌, ◌^◌, ◌≤◌, ◌++◌, true, length}
 use Rattle.op_edges.specs.Told.{Told}
 use Rattle.op_run.specs.LineRuns.{LinesRan}
 use Rattle.op_run.proofs.lines.run_lines.Given as goal
 
-abbrev pub invariant-loop : goal.invariant-loop
-invariant-loop g l = record {
+abbrev pub invariant-loop-well : goal.invariant-loop-well
+invariant-loop-well g l = record {
   going : l.reader.going ≡ true;
   config : l.server.config ≡ l.initial.server.config;
   ran : Told (g.S.Source.left l.initial.source) (g.S.Source.left l.source) (λ before after.
@@ -14,3 +14,7 @@ invariant-loop g l = record {
   later_input : g.S.Source.faults l.initial.source ≤ g.S.Source.faults l.source;
   later_output : g.O.Sink.faults l.initial.sink ≤ g.O.Sink.faults l.sink;
 }
+
+-- the number of lines that can be counted yet
+abbrev pub decreases-loop-well : goal.decreases-loop-well
+decreases-loop-well g l = 2 ^ 64 - l.reader.line
