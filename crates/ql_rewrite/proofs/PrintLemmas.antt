@@ -8,7 +8,7 @@ use Rattle.op_base.specs.declared.span.Span.{Span}
 use Rattle.ql_tree.specs.Durations.{duration_text}
 use Rattle.ql_tree.specs.Operators.{level_of}
 use Rattle.ql_tree.specs.Pieces.{Piece, written, bytes_of, quoted_text, piece_text, text_of}
-use Rattle.ql_tree.specs.Printed.{Leveled, operator_word, match_word, matching_word, grouping_word, clause_pieces, aggregate_name, comma, close_comma, label_pieces, labels_pieces, matcher_pieces, braces_pieces, head_pieces, range_pieces, distance_pieces, offset_pieces, selector_pieces, side_pieces, matching_pieces, bool_pieces, operator_pieces, grouping_pieces, operand_pieces, listed_pieces, pieces_step, pieces_of}
+use Rattle.ql_tree.specs.Printed.{Leveled, bracketed, operator_word, match_word, matching_word, grouping_word, clause_pieces, aggregate_name, comma, close_comma, label_pieces, labels_pieces, matcher_pieces, braces_pieces, head_pieces, range_pieces, distance_pieces, offset_pieces, selector_pieces, side_pieces, matching_pieces, bool_pieces, operator_pieces, grouping_pieces, operand_pieces, listed_pieces, pieces_step, pieces_of}
 use Rattle.ql_tree.specs.declared.tree.Expr.{Expr}
 use Rattle.ql_tree.specs.declared.tree.Expr.TheOpen.{Expr-F}
 use Rattle.ql_tree.specs.declared.tree.Expr.TheViews.{out-Expr}
@@ -110,7 +110,7 @@ pub at_selector : (t : List ℕ) (name : Option (List ℕ)) (ms : List Matcher) 
 at_selector t name ms range offset = simp (append_assoc, flat_map-append)
 
 pub at_brackets : (t : List ℕ) (ps : List Piece)
-    → t ++ text_of (written word.Open ∷ (ps ++ (written word.Close ∷ []))) ≡ t ++ codes "(" ++ text_of ps ++ codes ")"
+    → t ++ text_of (bracketed ps) ≡ t ++ codes "(" ++ text_of ps ++ codes ")"
 at_brackets t ps = between t word.Open word.Close ps
 
 -- trees with a comma and a blank between each two

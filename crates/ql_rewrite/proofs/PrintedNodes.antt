@@ -6,7 +6,7 @@ use Rattle.std.specs.List.{AllByRecursion as Each}
 use Rattle.ql_tree.specs.Children.{children_of, greatest, depth_of}
 use Rattle.ql_tree.specs.Operators.{operator_of, level_of, is_comparison, sign_of, aggregate_of}
 use Rattle.ql_tree.specs.Pieces.{Piece, written}
-use Rattle.ql_tree.specs.Printed.{Leveled, operator_word, aggregate_word, sign_word, comma, matching_pieces, bool_pieces, operator_pieces, grouping_pieces, placed, listed_pieces, pieces_step, pieces_of}
+use Rattle.ql_tree.specs.Printed.{Leveled, bracketed, operator_word, aggregate_word, sign_word, comma, matching_pieces, bool_pieces, operator_pieces, grouping_pieces, placed, listed_pieces, pieces_step, pieces_of}
 use Rattle.ql_tree.specs.Spells.{Spelling, begins_open, BoolOf, Chain, Signed, Arguments, Operands, Atom, levels, Within}
 use Rattle.ql_tree.specs.declared.tree.AggregateOp.{AggregateOp}
 use Rattle.ql_tree.specs.declared.tree.ArithOp.TheVariants as arithmetic
@@ -61,7 +61,7 @@ inside (suc n) d e p is less =
 placed_by : (m d k : ℕ) (e : Expr) (p : Leveled) (looser : Bool) → IsSpelledBy e p d → d < m
     → nat_lt k p.0 ≡ looser
     → AtLevel m k e (words_of
-    (if looser then written word.Open ∷ (p.1 ++ (written word.Close ∷ [])) else p.1))
+    (if looser then bracketed p.1 else p.1))
 placed_by m d k e p true is less test =
     rw (before_last p.1 word.Close)
     (rise_to m 0 k e (word.Open ∷ (words_of p.1 ++ (word.Close ∷ []))) zero-le
@@ -185,12 +185,12 @@ aggregate_spelled : (m : ℕ) (op : AggregateOp) (g : Option Grouping) (param : 
     (ps : List Piece) → 0 < m
     → IsGrouping g → Operands (Within m) param e (words_of ps)
     → Atom m (Within m) (expr.Aggregate op g param (e ∷ []))
-    (words_of (written (aggregate_word op) ∷ (grouping_pieces g ++ (written word.Open ∷ (ps ++ (written word.Close ∷ []))))))
+    (words_of (written (aggregate_word op) ∷ (grouping_pieces g ++ bracketed ps)))
 aggregate_spelled m op None param e ps some is are =
     rw (before_last ps word.Close)
     (Atom.aggregate (aggregate_word op) op param e (words_of ps) (aggregate_is op) are)
 aggregate_spelled m op (Some g) param e ps some is are =
-    rw (words-grouping g (written word.Open ∷ (ps ++ (written word.Close ∷ []))))
+    rw (words-grouping g (bracketed ps))
     (rw (before_last ps word.Close)
     (Atom.grouped_before (aggregate_word op) op g param e (grouping_words g) (words_of ps) (aggregate_is op)
     (grouping_spelled m g some is) are))

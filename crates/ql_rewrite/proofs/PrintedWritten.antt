@@ -9,7 +9,7 @@ use Rattle.op_base.specs.declared.matcher.MatchOp.TheVariants as match
 use Rattle.op_base.specs.declared.span.Span.{Span}
 use Rattle.ql_tree.specs.Operators.{level_of}
 use Rattle.ql_tree.specs.Pieces.{Piece, blank, written}
-use Rattle.ql_tree.specs.Printed.{Leveled, label_word, operator_word, aggregate_word, match_word, sign_word, matching_word, side_word, grouping_word, comma, label_pieces, labels_pieces, matcher_pieces, braces_pieces, head_pieces, range_pieces, distance_pieces, offset_pieces, side_pieces, matching_pieces, bool_pieces, operator_pieces, grouping_pieces, placed, listed_pieces, pieces_step, pieces_of}
+use Rattle.ql_tree.specs.Printed.{Leveled, bracketed, label_word, operator_word, aggregate_word, match_word, sign_word, matching_word, side_word, grouping_word, comma, label_pieces, labels_pieces, matcher_pieces, braces_pieces, head_pieces, range_pieces, distance_pieces, offset_pieces, side_pieces, matching_pieces, bool_pieces, operator_pieces, grouping_pieces, placed, listed_pieces, pieces_step, pieces_of}
 use Rattle.ql_tree.specs.Reserved.{is_reserved}
 use Rattle.ql_tree.specs.Words.{keyword_of, span_of}
 use Rattle.ql_tree.specs.declared.tree.AggregateOp.{AggregateOp}
@@ -55,7 +55,7 @@ module _ {X : Type 0} (f : X → List Piece) (between : List Piece) (is : HasWri
 
 -- what stands between brackets
 bracketed_written : (ps : List Piece) → HasWritten ps
-    → HasWritten (written word.Open ∷ (ps ++ (written word.Close ∷ [])))
+    → HasWritten (bracketed ps)
 bracketed_written ps all = (tt, both ps (written word.Close ∷ []) all (tt, tt))
 
 label_bytes : (text : List ℕ) → list_all is_label_byte text ≡ true
@@ -198,7 +198,7 @@ placed_written : (k : ℕ) (p : Leveled) → HasWritten p.1 → HasWritten (plac
 placed_written k p all =
     elim (nat_lt k p.0) as
     (λ looser. HasWritten
-    (if looser then written word.Open ∷ (p.1 ++ (written word.Close ∷ [])) else p.1)) [
+    (if looser then bracketed p.1 else p.1)) [
       | true ↦ bracketed_written p.1 all
       | false ↦ all
     ]
@@ -216,6 +216,7 @@ grouping_written None is = tt
 grouping_written (Some g) is =
     (grouping_word_written g.by, both (labels_pieces g.labels) (blank ∷ []) (labels_written g.labels is) tt)
 
+-- a text can write all words of the printed tree
 abbrev pub IsPrintedWritten : Expr → Type 0
 IsPrintedWritten e = AreWritten (words_of (pieces_of e).1)
 
@@ -232,10 +233,10 @@ listed_written es all =
 aggregate_written : (op : AggregateOp) (g : Option Grouping) (ps : List Piece) → IsGrouping g
     → HasWritten ps
     → HasWritten (written (aggregate_word op)
-    ∷ (grouping_pieces g ++ (written word.Open ∷ (ps ++ (written word.Close ∷ [])))))
+    ∷ (grouping_pieces g ++ bracketed ps))
 aggregate_written op g ps is all = (
   aggregate_word_written op,
-  both (grouping_pieces g) (written word.Open ∷ (ps ++ (written word.Close ∷ []))) (grouping_written g is)
+  both (grouping_pieces g) (bracketed ps) (grouping_written g is)
       (bracketed_written ps all),
 )
 

@@ -10,7 +10,7 @@ use Rattle.op_base.specs.declared.matcher.MatchOp.TheVariants as match
 use Rattle.op_base.specs.declared.span.Span.{Span}
 use Rattle.ql_tree.specs.Operators.{level_of}
 use Rattle.ql_tree.specs.Pieces.{Piece, blank, written}
-use Rattle.ql_tree.specs.Printed.{Leveled, label_word, operator_word, aggregate_word, match_word, sign_word, matching_word, side_word, grouping_word, comma, label_pieces, labels_pieces, clause_pieces, matcher_pieces, braces_pieces, head_pieces, range_pieces, length_word, distance_pieces, offset_pieces, side_pieces, matching_pieces, bool_pieces, operator_pieces, grouping_pieces, placed, listed_pieces, pieces_step, pieces_of}
+use Rattle.ql_tree.specs.Printed.{Leveled, bracketed, label_word, operator_word, aggregate_word, match_word, sign_word, matching_word, side_word, grouping_word, comma, label_pieces, labels_pieces, clause_pieces, matcher_pieces, braces_pieces, head_pieces, range_pieces, length_word, distance_pieces, offset_pieces, side_pieces, matching_pieces, bool_pieces, operator_pieces, grouping_pieces, placed, listed_pieces, pieces_step, pieces_of}
 use Rattle.ql_tree.specs.declared.tree.AggregateOp.{AggregateOp}
 use Rattle.ql_tree.specs.declared.tree.BinaryOp.{BinaryOp}
 use Rattle.ql_tree.specs.declared.tree.Expr.{Expr}
@@ -75,6 +75,7 @@ behind_blank rest safe = record { begins = refl; safe = safe }
 abbrev pub IsSafeBefore : List Piece → Type 0
 IsSafeBefore pieces = (rest : List Piece) → IsFree rest → are_safe (pieces ++ rest) ≡ true
 
+-- pieces that may stand behind any word, with what may follow them
 abbrev IsFreeBefore : List Piece → Type 0
 IsFreeBefore pieces = (rest : List Piece) → IsFree rest → IsFree (pieces ++ rest)
 
@@ -133,7 +134,7 @@ close_comma_free ps safe rest is =
 
 -- what stands between brackets
 bracketed_free : (ps : List Piece) → IsSafeBefore ps
-    → IsFreeBefore (written word.Open ∷ (ps ++ (written word.Close ∷ [])))
+    → IsFreeBefore (bracketed ps)
 bracketed_free ps safe rest is = record {
   begins = refl;
   safe = opens word.Open ((ps ++ (written word.Close ∷ [])) ++ rest) refl refl
@@ -240,11 +241,12 @@ placed_safe : (k : ℕ) (p : Leveled) → IsSafeBefore p.1 → IsSafeBefore (pla
 placed_safe k p safe =
     elim (nat_lt k p.0) as
     (λ looser. IsSafeBefore
-    (if looser then written word.Open ∷ (p.1 ++ (written word.Close ∷ [])) else p.1)) [
+    (if looser then bracketed p.1 else p.1)) [
       | true ↦ λ rest is. (bracketed_free p.1 safe rest is).safe
       | false ↦ safe
     ]
 
+-- what may follow the pieces of the tree
 abbrev pub IsSafePrinted : Expr → Type 0
 IsSafePrinted e = IsSafeBefore (pieces_of e).1
 
@@ -259,9 +261,9 @@ listed_safe es all = joined_safe (λ (p : Leveled). p.1) comma comma_free (map p
 
 aggregate_safe : (op : AggregateOp) (g : Option Grouping) (ps : List Piece) → IsSafeBefore ps
     → IsSafeBefore (written (aggregate_word op)
-    ∷ (grouping_pieces g ++ (written word.Open ∷ (ps ++ (written word.Close ∷ [])))))
+    ∷ (grouping_pieces g ++ bracketed ps))
 aggregate_safe op g ps safe rest is =
-    let arguments : List Piece = written word.Open ∷ (ps ++ (written word.Close ∷ [])) in
+    let arguments : List Piece = bracketed ps in
     before_free (aggregate_word op) ((grouping_pieces g ++ arguments) ++ rest)
     (both_free (grouping_pieces g) arguments (grouping_free g) (bracketed_free ps safe) rest is)
 
@@ -307,7 +309,7 @@ printed_safe W = record {
   call = λ function args has are. safe_by (expr.Call function args) (Expr-F.Call function args)
       (out-Call function args)
       (λ rest is. before_free (word.Name keyword.Plain function)
-      (written word.Open ∷ ((listed_pieces (map pieces_of args) ++ (written word.Close ∷ [])) ++ rest))
+      (bracketed (listed_pieces (map pieces_of args)) ++ rest)
       (bracketed_free (listed_pieces (map pieces_of args)) (listed_safe args are) rest is));
   aggregate = λ op g e is of. safe_by (expr.Aggregate op g [] (e ∷ []))
       (Expr-F.Aggregate op g [] (e ∷ [])) (out-Aggregate op g [] (e ∷ []))

@@ -29,6 +29,7 @@ IsWritten (word.Duration span) = (pos 0 ≤ℤ span.0) × (nat_abs span.0 ≤ lo
 IsWritten (word.Name k text) = (is_metric_name text ≡ true) × (k ≡ keyword_of text)
 IsWritten _ = Unit {0}
 
+-- a text can write all of the words
 abbrev pub AreWritten : List Word → Type 0
 AreWritten words = Each IsWritten words
 

@@ -110,7 +110,8 @@ fn push_placed(alloc: Global, text: &mut Text, loosest: usize, expr: &Expr) -> R
 /// `behind` others.
 #[cycle(printing)]
 fn push_listed(alloc: Global, text: &mut Text, behind: bool, exprs: &[Expr]) -> Result<(), NoMemory>
-    ensures { OnOk result (text.new ≡ text.old ++ (if behind then flat_map (λ p. codes ", " ++ text_of p.1) (map spec.pieces_of exprs.now)
+    ensures { OnOk result (text.new ≡ text.old
+        ++ (if behind then flat_map (λ p. codes ", " ++ text_of p.1) (map spec.pieces_of exprs.now)
         else join_by (λ p. text_of p.1) (codes ", ") (map spec.pieces_of exprs.now))) }
 {
     let mut more = behind;

@@ -86,6 +86,10 @@ side_word left =
 unfoldable pub grouping_word : Bool → Word
 grouping_word by = if by then word.Name keyword.By (codes "by") else word.Name keyword.Without (codes "without")
 
+-- pieces in round brackets
+abbrev pub bracketed : List Piece → List Piece
+bracketed pieces = written word.Open ∷ (pieces ++ (written word.Close ∷ []))
+
 -- a comma and a blank
 abbrev pub comma : List Piece
 comma = written word.Comma ∷ blank ∷ []
@@ -100,7 +104,7 @@ label_pieces label = written (label_word label) ∷ []
 
 -- `(a, b)`
 abbrev pub labels_pieces : List (List ℕ) → List Piece
-labels_pieces labels = written word.Open ∷ (join_by label_pieces comma labels ++ (written word.Close ∷ []))
+labels_pieces labels = bracketed (join_by label_pieces comma labels)
 
 -- a matcher: its label, its operator and its value in quotes
 abbrev pub matcher_pieces : Matcher → List Piece
@@ -174,7 +178,7 @@ Leveled = ℕ × List Piece
 
 -- in brackets where the level is looser than k
 abbrev pub placed : ℕ → Leveled → List Piece
-placed k p = if nat_lt k p.0 then written word.Open ∷ (p.1 ++ (written word.Close ∷ [])) else p.1
+placed k p = if nat_lt k p.0 then bracketed p.1 else p.1
 
 -- the operand at a place where the level may be k at most: the first child there, which is the only
 -- one in each tree that some text spells
@@ -195,12 +199,9 @@ pieces_step (Expr-F.Unary minus of) = (0, written (sign_word minus) ∷ operand_
 pieces_step (Expr-F.Binary op boolean m left right) =
     (level_of op, operand_pieces (level_of op) left ++ (operator_pieces op boolean m ++ operand_pieces (level_of op - 1) right))
 pieces_step (Expr-F.Call function args) =
-    (0, written (word.Name keyword.Plain function) ∷ written word.Open ∷ (listed_pieces args ++ (written word.Close ∷ [])))
-pieces_step (Expr-F.Aggregate op grouping param of) = (
-  0,
-  written (aggregate_word op)
-      ∷ (grouping_pieces grouping ++ (written word.Open ∷ (listed_pieces (param ++ of) ++ (written word.Close ∷ [])))),
-)
+    (0, written (word.Name keyword.Plain function) ∷ bracketed (listed_pieces args))
+pieces_step (Expr-F.Aggregate op grouping param of) =
+    (0, written (aggregate_word op) ∷ (grouping_pieces grouping ++ bracketed (listed_pieces (param ++ of))))
 
 -- a tree's level and its pieces, node by node
 abbrev pub pieces_of : Expr → Leveled
