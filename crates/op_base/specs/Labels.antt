@@ -1,6 +1,6 @@
 -- Label sets, after the Prometheus data model, and the tags of objects, after Kubernetes: finite
 -- maps from names to texts, in the order of the names.
-use Rattle.std.specs.Prelude.{◌≡◌, ℕ, ◌<◌, ◌==◌, Bool, List, [], ◌∷◌, length, slice_index_or}
+use Rattle.std.specs.Prelude.{◌≡◌, ℕ, ◌<◌, ◌==◌, Bool, List, [], ◌∷◌, fold, length, slice_index_or}
 use Rattle.std.specs.List.{AllByRecursion}
 use Rattle.std.specs.declared.cmp.Ordering.{Ordering}
 use Rattle.std.specs.Ordering.{nat_cmp, on, then_cmp, eq_of_both, eq_by_cmp}
@@ -20,6 +20,10 @@ IsLabels labels = IsMap labels × AllByRecursion (λ entry. 0 < length entry.1) 
 abbrev pub labels_with : Texts → List ℕ → List ℕ → Texts
 labels_with labels name [] = without_entry labels name
 labels_with labels name (b ∷ value) = with_entry labels name (b ∷ value)
+
+-- the labels with others put over them, one after the other; an empty text removes a label
+abbrev pub labels_with_all : Texts → Texts → Texts
+labels_with_all labels others = fold (λ put other. labels_with put other.0 other.1) labels others
 
 -- the entry at a place in the order of names
 abbrev pub entry_in : Texts → ℕ → List ℕ × List ℕ

@@ -2,6 +2,7 @@ pub mod Keys
 pub mod Labels
 pub mod Maps
 pub mod Matchers
+pub mod Moments
 pub mod Names
 pub mod Patterns
 pub mod Selectors

@@ -1,11 +1,12 @@
 ghost use Rattle.std.specs.Prelude.{◌≡◌, ◌<◌, [], length, IfOk, OnOk, OnErr};
 ghost use Rattle.std.specs.Option.{option_copied};
 ghost use Rattle.op_base.specs.Maps.{value_at, without_entry};
-ghost use Rattle.op_base.specs.Labels.{IsLabels, labels_with, name_in, text_in};
+ghost use Rattle.op_base.specs.Labels.{IsLabels, labels_with, labels_with_all, name_in, text_in};
 ghost use Rattle.op_base.specs.Matchers.{label_value};
 
 use crate::entries::{find, put, remove};
 use crate::memory::NoMemory;
+use crate::tags::Tags;
 use crate::text::Text;
 use std::alloc::Global;
 use std::cmp::Ordering;
@@ -80,6 +81,30 @@ impl Labels {
         let name = Text::from_str(alloc, name)?;
         let value = Text::from_str(alloc, value)?;
         put(&mut self.entries, name, value)
+    }
+
+    /// Puts each of the texts at its name, in place of any that stood there. An empty text removes the
+    /// name. An error leaves some of them put.
+    pub fn set_all(&mut self, others: &Tags) -> Result<(), NoMemory>
+        ensures { OnOk result (self.new ≡ labels_with_all self.old others.now) }
+    {
+        self.set_each(others.as_slice())
+    }
+
+    /// Puts the other labels over these. An error leaves some of them put.
+    pub fn set_labels(&mut self, others: &Labels) -> Result<(), NoMemory>
+        ensures { OnOk result (self.new ≡ labels_with_all self.old others.now) }
+    {
+        self.set_each(others.entries.as_slice())
+    }
+
+    fn set_each(&mut self, others: &[(Text, Text)]) -> Result<(), NoMemory>
+        ensures { OnOk result (self.new ≡ labels_with_all self.old others.now) }
+    {
+        for other in others {
+            self.set(other.0.as_str(), other.1.as_str())?;
+        }
+        Ok(())
     }
 
     /// Removes the name, where it is there.

@@ -9,6 +9,7 @@
 mod entries;
 mod key;
 mod kind;
+mod label_names;
 mod labels;
 mod list;
 mod matcher;
@@ -28,11 +29,12 @@ mod text;
 
 pub use key::Key;
 pub use kind::Kind;
+pub use label_names::{METRIC_NAME, NAMESPACE_LABEL};
 pub use labels::Labels;
 pub use list::List;
 pub use matcher::{MatchFault, MatchOp, Matcher};
 pub use memory::NoMemory;
-pub use moment::Moment;
+pub use moment::{LAST_MOMENT, Moment};
 pub use names::{is_label_name, is_metric_name, is_name, is_namespace};
 pub use pattern::{Pattern, PatternFault};
 pub use prepared::PreparedMatcher;

@@ -89,6 +89,12 @@ impl Tags {
         self.entries.len()
     }
 
+    pub(crate) fn as_slice(&self) -> &[(Text, Text)]
+        ensures { result.now ≡ self.now }
+    {
+        self.entries.as_slice()
+    }
+
     /// The text at the key.
     pub fn get(&self, key: &str) -> Option<&str>
         ensures value { option_copied result ≡ value_at self.now key.now }
