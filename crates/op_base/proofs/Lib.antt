@@ -1,5 +1,6 @@
 mod CaptureLemmas
 pub mod EntryLemmas
+pub mod MapLemmas
 mod PatternLemmas
 mod SpanLemmas
 pub mod SpanReadLemmas

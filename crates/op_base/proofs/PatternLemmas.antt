@@ -1,4 +1,4 @@
--- What `regex` states of a text, and the steps over a plain pattern.
+-- What `regex` states of a text, and the steps over a literal pattern.
 use Rattle.std.proofs.Common.{◌≡◌, ◌≢◌, ℕ, ◌<◌, ◌≤◌, Bool, true, false, List, [], ◌∷◌, ◌++◌, cond, ◌==◌, nat_le, chars, Option, Some, None, option_map, option_and_then, IsSomeAnd, IfSome, IfOk, Result, Ok, Err, refl, ap, sym, subst, ◌∙◌, inl, inr, append_assoc, arith}
 use Rattle.std.proofs.lemmas.Bool.Decides.{nat_tests}
 use Rattle.std.specs.Option.{option_map_or}
@@ -16,7 +16,7 @@ use Rattle.regex.specs.declared.error.Error.{Error}
 use Rattle.regex.specs.declared.error.Error.TheVariants.{Syntax}
 use Rattle.regex.specs.declared.string.regex.Regex.{Regex}
 use Rattle.op_base.specs.declared.pattern.Form.{Form}
-use Rattle.op_base.specs.Patterns.{Meaning, meaning_of, meaning_matches, pattern_matches, IsFormOf, reading_of, IsCompiled, unescaped, plain_step, plain_part, is_plain_byte}
+use Rattle.op_base.specs.Patterns.{Meaning, meaning_of, meaning_matches, pattern_matches, IsFormOf, reading_of, IsCompiled, unescaped, literal_step, literal_part, is_literal_byte}
 
 nest_within : (depth limit : ℕ) → depth ≤ limit → nat_le depth limit ≡ true
 nest_within depth limit h = grind (arith, nat_tests, h)
@@ -70,26 +70,26 @@ pub refused : (source : List ℕ) (error : Error) (e : parser.Error) → error �
     → reading_of source ≡ None
 refused source error e is refusal kind = refused-kind source e.kind (refusal e is) (subst (IsRightKind default_config source) is kind)
 
--- a step over a plain pattern
-steps : (escaped : Bool) (b : ℕ) (text : List ℕ) (begins : Bool) → plain_step escaped b ≡ Some begins
-    → unescaped escaped (b ∷ text) ≡ option_map (λ rest. plain_part begins b ++ rest) (unescaped begins text)
+-- a step over a literal pattern
+steps : (escaped : Bool) (b : ℕ) (text : List ℕ) (begins : Bool) → literal_step escaped b ≡ Some begins
+    → unescaped escaped (b ∷ text) ≡ option_map (λ rest. literal_part begins b ++ rest) (unescaped begins text)
 steps true b text begins is =
     elim (b == 45) as (λ t. cond t (Some false) None ≡ Some begins
-    → cond t (option_map (λ rest. b ∷ rest) (unescaped false text)) None ≡ option_map (λ rest. plain_part begins b ++ rest) (unescaped begins text)) [
+    → cond t (option_map (λ rest. b ∷ rest) (unescaped false text)) None ≡ option_map (λ rest. literal_part begins b ++ rest) (unescaped begins text)) [
       | true ↦ λ e. let same : false ≡ begins = cc in
-          subst (λ x. option_map (λ rest. b ∷ rest) (unescaped false text) ≡ option_map (λ rest. plain_part x b ++ rest) (unescaped x text)) same refl
+          subst (λ x. option_map (λ rest. b ∷ rest) (unescaped false text) ≡ option_map (λ rest. literal_part x b ++ rest) (unescaped x text)) same refl
       | false ↦ λ e. absurd cc
     ] is
 steps false b text begins is =
-    elim (b == 92) as (λ t. cond t (Some true) (cond (is_plain_byte b) (Some false) None) ≡ Some begins
-    → cond t (unescaped true text) (cond (is_plain_byte b) (option_map (λ rest. b ∷ rest) (unescaped false text)) None)
-    ≡ option_map (λ rest. plain_part begins b ++ rest) (unescaped begins text)) [
+    elim (b == 92) as (λ t. cond t (Some true) (cond (is_literal_byte b) (Some false) None) ≡ Some begins
+    → cond t (unescaped true text) (cond (is_literal_byte b) (option_map (λ rest. b ∷ rest) (unescaped false text)) None)
+    ≡ option_map (λ rest. literal_part begins b ++ rest) (unescaped begins text)) [
       | true ↦ λ e. let same : true ≡ begins = cc in
-          subst (λ x. unescaped true text ≡ option_map (λ rest. plain_part x b ++ rest) (unescaped x text)) same (as_it_is (unescaped true text))
-      | false ↦ λ e. elim (is_plain_byte b) as (λ t. cond t (Some false) None ≡ Some begins
-          → cond t (option_map (λ rest. b ∷ rest) (unescaped false text)) None ≡ option_map (λ rest. plain_part begins b ++ rest) (unescaped begins text)) [
+          subst (λ x. unescaped true text ≡ option_map (λ rest. literal_part x b ++ rest) (unescaped x text)) same (as_it_is (unescaped true text))
+      | false ↦ λ e. elim (is_literal_byte b) as (λ t. cond t (Some false) None ≡ Some begins
+          → cond t (option_map (λ rest. b ∷ rest) (unescaped false text)) None ≡ option_map (λ rest. literal_part begins b ++ rest) (unescaped begins text)) [
             | true ↦ λ e. let same : false ≡ begins = cc in
-                subst (λ x. option_map (λ rest. b ∷ rest) (unescaped false text) ≡ option_map (λ rest. plain_part x b ++ rest) (unescaped x text)) same refl
+                subst (λ x. option_map (λ rest. b ∷ rest) (unescaped false text) ≡ option_map (λ rest. literal_part x b ++ rest) (unescaped x text)) same refl
             | false ↦ λ e. absurd cc
           ] e
     ] is
@@ -98,15 +98,15 @@ steps false b text begins is =
     as_it_is None = refl
     as_it_is (Some rest) = refl
 
-pub plain-more : (escaped : Bool) (b : ℕ) (text : List ℕ) (begins : Bool) (bytes new : List ℕ) → plain_step escaped b ≡ Some begins → new ≡ bytes ++ plain_part begins b
+pub literal-more : (escaped : Bool) (b : ℕ) (text : List ℕ) (begins : Bool) (bytes new : List ℕ) → literal_step escaped b ≡ Some begins → new ≡ bytes ++ literal_part begins b
     → option_map (λ rest. new ++ rest) (unescaped begins text) ≡ option_map (λ rest. bytes ++ rest) (unescaped escaped (b ∷ text))
-plain-more escaped b text begins bytes new is grown =
+literal-more escaped b text begins bytes new is grown =
     ap (λ l. option_map (λ rest. l ++ rest) (unescaped begins text)) grown ∙ twice (unescaped begins text)
     ∙ ap (option_map (λ rest. bytes ++ rest)) (sym (steps escaped b text begins is))
   where
-    twice : (o : Option (List ℕ)) → option_map (λ rest. (bytes ++ plain_part begins b) ++ rest) o ≡ option_map (λ rest. bytes ++ rest) (option_map (λ rest. plain_part begins b ++ rest) o)
+    twice : (o : Option (List ℕ)) → option_map (λ rest. (bytes ++ literal_part begins b) ++ rest) o ≡ option_map (λ rest. bytes ++ rest) (option_map (λ rest. literal_part begins b ++ rest) o)
     twice None = refl
-    twice (Some rest) = ap (λ l. Some l) (append_assoc bytes (plain_part begins b) rest)
+    twice (Some rest) = ap (λ l. Some l) (append_assoc bytes (literal_part begins b) rest)
 
 -- how a pattern is kept shows what it matches
 pub matched : {E : Type 0} (r : Result Bool E) (text seen value : List ℕ) (form : Form)

@@ -9,19 +9,19 @@ use Rattle.regex.specs.Patterns.{Re, find_str, default_config, SameCaptures}
 use Rattle.regex.specs.Strings.{regex_pattern, regex_names}
 use Rattle.regex.specs.declared.string.regex.Regex.{Regex}
 use Rattle.op_base.specs.declared.pattern.Form.{Form}
-use Rattle.op_base.specs.declared.pattern.Form.TheVariants.{Every, NotEmpty, Plain, Regular}
+use Rattle.op_base.specs.declared.pattern.Form.TheVariants.{Every, NotEmpty, Literal, Regular}
 use Rattle.op_base.specs.Names.{is_lower, is_upper, is_digit}
 
 -- what a pattern means: every text, every text that isn't empty, one text, or what `regex` finds
 pub data Meaning : Type 0 where
   every : Meaning
   nonempty : Meaning
-  plain : List ℕ → Meaning
+  literal : List ℕ → Meaning
   regular : Re → Names → Meaning
 
 -- a letter, a digit, `_` or `-`
-abbrev pub is_plain_byte : ℕ → Bool
-is_plain_byte b = is_lower b || is_upper b || is_digit b || b == 95 || b == 45
+abbrev pub is_literal_byte : ℕ → Bool
+is_literal_byte b = is_lower b || is_upper b || is_digit b || b == 95 || b == 45
 
 -- a text of such bytes and of the pair `\-`, without its backslashes; the flag is true behind one
 abbrev pub unescaped : Bool → List ℕ → Option (List ℕ)
@@ -29,13 +29,13 @@ unescaped false [] = Some []
 unescaped true [] = None
 unescaped false (b ∷ text) =
     if b == 92 then unescaped true text
-    else (if is_plain_byte b then option_map (λ rest. b ∷ rest) (unescaped false text) else None)
+    else (if is_literal_byte b then option_map (λ rest. b ∷ rest) (unescaped false text) else None)
 unescaped true (b ∷ text) = if b == 45 then option_map (λ rest. b ∷ rest) (unescaped false text) else None
 
--- the text that a plain pattern means
-abbrev pub plain_of : List ℕ → Option (List ℕ)
-plain_of [] = None
-plain_of (b ∷ text) = unescaped false (b ∷ text)
+-- the text that a literal pattern means
+abbrev pub literal_of : List ℕ → Option (List ℕ)
+literal_of [] = None
+literal_of (b ∷ text) = unescaped false (b ∷ text)
 
 -- what `regex` reads in a text that isn't nested too deep, with the names of its groups
 abbrev pub reading_of : List ℕ → Option (Re × Names)
@@ -53,16 +53,16 @@ regular_of None anchored_reading = None
 regular_of (Some reading) None = None
 regular_of (Some reading) (Some (re, names)) = Some (regular re names)
 
--- a plain pattern means its text
-abbrev pub plain_or_regular : Option (List ℕ) → List ℕ → Option Meaning
-plain_or_regular (Some plain_text) text = Some (plain plain_text)
-plain_or_regular None text = regular_of (reading_of text) (reading_of (anchored text))
+-- a literal pattern means its text
+abbrev pub literal_or_regular : Option (List ℕ) → List ℕ → Option Meaning
+literal_or_regular (Some literal_text) text = Some (literal literal_text)
+literal_or_regular None text = regular_of (reading_of text) (reading_of (anchored text))
 
 -- what a text means as a pattern, if it is one
 abbrev pub meaning_of : List ℕ → Option Meaning
 meaning_of text =
     if bytes_eq text (codes "(.*)") then Some every
-    else (if bytes_eq text (codes "(.+)") then Some nonempty else plain_or_regular (plain_of text) text)
+    else (if bytes_eq text (codes "(.+)") then Some nonempty else literal_or_regular (literal_of text) text)
 
 -- the text is a pattern
 abbrev pub IsPattern : List ℕ → Type 0
@@ -72,7 +72,7 @@ IsPattern text = IsSome (meaning_of text)
 abbrev pub meaning_matches : List ℕ → Meaning → Bool
 meaning_matches value every = true
 meaning_matches value nonempty = not (bytes_eq value [])
-meaning_matches value (plain text) = bytes_eq text value
+meaning_matches value (literal text) = bytes_eq text value
 meaning_matches value (regular re names) = is_some (find_str re value 0)
 
 -- whether a value matches the pattern that a text is
@@ -91,7 +91,7 @@ written_whole count value template = written_after (replicate count None) (whole
 abbrev pub meaning_expands : List ℕ → List ℕ → Meaning → Option (List ℕ)
 meaning_expands value template every = Some (written_whole 2 value template)
 meaning_expands value template nonempty = if bytes_eq value [] then None else Some (written_whole 2 value template)
-meaning_expands value template (plain text) = if bytes_eq text value then Some (written_whole 1 value template) else None
+meaning_expands value template (literal text) = if bytes_eq text value then Some (written_whole 1 value template) else None
 meaning_expands value template (regular re names) =
     option_map (λ found. written_after names (group_bytes value found) template 0) (find_str re value 0)
 
@@ -103,26 +103,26 @@ pattern_expands text value template = option_and_then (meaning_expands value tem
 abbrev pub IsRegular : Regex → Meaning → Type 0
 IsRegular regex every = ⊥
 IsRegular regex nonempty = ⊥
-IsRegular regex (plain text) = ⊥
+IsRegular regex (literal text) = ⊥
 IsRegular regex (regular re names) = SameCaptures (regex_pattern regex) re × (regex_names regex ≡ names)
 
 -- how a pattern is kept shows its meaning
 abbrev pub IsFormOf : Option Meaning → Form → Type 0
 IsFormOf meaning Every = meaning ≡ Some every
 IsFormOf meaning NotEmpty = meaning ≡ Some nonempty
-IsFormOf meaning (Plain text) = meaning ≡ Some (plain text.items)
+IsFormOf meaning (Literal text) = meaning ≡ Some (literal text.items)
 IsFormOf meaning (Regular regex) = IsSomeAnd meaning (IsRegular regex)
 
 -- a compiled text finds what `regex` reads in it
 abbrev pub IsCompiled : List ℕ → Regex → Type 0
 IsCompiled text regex = IsSomeAnd (reading_of text) (λ (re, names). SameCaptures (regex_pattern regex) re × (regex_names regex ≡ names))
 
--- whether a byte of a plain pattern begins the pair `\-` or stands for itself, if it may stand there
-abbrev pub plain_step : Bool → ℕ → Option Bool
-plain_step true b = if b == 45 then Some false else None
-plain_step false b = if b == 92 then Some true else (if is_plain_byte b then Some false else None)
+-- whether a byte of a literal pattern begins the pair `\-` or stands for itself, if it may stand there
+abbrev pub literal_step : Bool → ℕ → Option Bool
+literal_step true b = if b == 45 then Some false else None
+literal_step false b = if b == 92 then Some true else (if is_literal_byte b then Some false else None)
 
 -- what such a byte adds
-abbrev pub plain_part : Bool → ℕ → List ℕ
-plain_part true b = []
-plain_part false b = b ∷ []
+abbrev pub literal_part : Bool → ℕ → List ℕ
+literal_part true b = []
+literal_part false b = b ∷ []

@@ -1,8 +1,8 @@
-//! The types that every other crate speaks of: owned texts and lists, finite maps of texts, names,
-//! object keys and the step counter.
+//! The types that every other crate speaks of: owned texts and lists, finite maps, names, object
+//! keys and the step counter.
 //!
-//! Contracts see a [`Text`] as the list of its bytes, a [`List`] as the list of its items and a
-//! [`Table`] as its entries in the order of their keys. Read `specs/Maps.antt` and
+//! Contracts see a [`Text`] as the list of its bytes, a [`List`] as the list of its items, an
+//! [`OrderedMap`] and a [`Table`] as their entries in the order of their keys. Read `specs/Maps.antt` and
 //! `specs/Names.antt` first.
 #![tactic(auto)]
 
@@ -16,6 +16,7 @@ mod matcher;
 mod memory;
 mod moment;
 mod names;
+mod ordered_map;
 mod pattern;
 mod prepared;
 mod selector;
@@ -31,11 +32,12 @@ pub use key::Key;
 pub use kind::Kind;
 pub use label_names::{METRIC_NAME, NAMESPACE_LABEL};
 pub use labels::Labels;
-pub use list::List;
+pub use list::{List, behind};
 pub use matcher::{MatchFault, MatchOp, Matcher};
 pub use memory::NoMemory;
 pub use moment::{LAST_MOMENT, Moment};
 pub use names::{is_label_name, is_metric_name, is_name, is_namespace};
+pub use ordered_map::{OrderedMap, in_order};
 pub use pattern::{Pattern, PatternFault};
 pub use prepared::PreparedMatcher;
 pub use selector::{Requirement, Selector};

@@ -1,4 +1,4 @@
-ghost use Rattle.std.specs.Prelude.{◌≡◌, [], ◌∷◌, ◌++◌, length, slice_get, IsTrue, ◌↔◌, OnOk, OnErr, MatchOption};
+ghost use Rattle.std.specs.Prelude.{◌≡◌, [], ◌∷◌, ◌++◌, length, drop, slice_get, IsTrue, ◌↔◌, OnOk, OnErr, MatchOption};
 ghost use Rattle.std.specs.Option.{option_copied};
 
 use crate::memory::NoMemory;
@@ -96,6 +96,17 @@ impl<T: Drop> List<T> {
         let List { mut inner } = more;
         self.inner.append(&mut inner)?;
         Ok(())
+    }
+}
+
+/// The items from the place on.
+pub fn behind<T>(items: &[T], place: usize) -> &[T]
+    ensures { result.now ≡ drop place items.now }
+{
+    if place < items.len() {
+        &items[place..]
+    } else {
+        &[]
     }
 }
 

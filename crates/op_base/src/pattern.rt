@@ -33,7 +33,7 @@ impl From<NoMemory> for PatternFault {
 }
 
 /// A regular expression of the crate `regex`, anchored at both ends as Prometheus anchors them.
-/// `(.*)` means every text, `(.+)` every text that isn't empty, and a plain pattern, which isn't
+/// `(.*)` means every text, `(.+)` every text that isn't empty, and a literal pattern, which isn't
 /// empty and consists of ASCII letters, digits, `_`, `-` and the pair `\-`, exactly the text that it
 /// is without its backslashes. Contracts see its text. It keeps its allocator.
 #[derive(Drop)]
@@ -47,7 +47,7 @@ pub struct Pattern {
 enum Form {
     Every,
     NotEmpty,
-    Plain(Vec<u8>),
+    Literal(Vec<u8>),
     Regular(Regex),
 }
 
@@ -108,7 +108,7 @@ fn form_expands(
             }
             Ok(Some(written(alloc, 2, value, template)?))
         }
-        Form::Plain(text) => {
+        Form::Literal(text) => {
             if text.as_slice() == value.as_bytes() {
                 return Ok(Some(written(alloc, 1, value, template)?));
             }
@@ -147,7 +147,7 @@ fn form_matches(alloc: Global, form: &Form, value: &str) -> Result<bool, NoMemor
     match form {
         Form::Every => Ok(true),
         Form::NotEmpty => Ok(!value.as_bytes().is_empty()),
-        Form::Plain(text) => Ok(text.as_slice() == value.as_bytes()),
+        Form::Literal(text) => Ok(text.as_slice() == value.as_bytes()),
         Form::Regular(regex) => finds(alloc, regex, value),
     }
 }
@@ -170,15 +170,15 @@ fn form_of(alloc: Global, text: &str) -> Result<Form, PatternFault>
     if text == "(.+)" {
         return Ok(Form::NotEmpty);
     }
-    match plain(alloc, text.as_bytes())? {
-        Some(bytes) => Ok(Form::Plain(bytes)),
+    match literal(alloc, text.as_bytes())? {
+        Some(bytes) => Ok(Form::Literal(bytes)),
         None => regular(alloc, text),
     }
 }
 
 fn regular(alloc: Global, text: &str) -> Result<Form, PatternFault>
-    ensures form { IfOk result (spec.IsFormOf (spec.plain_or_regular None text.now)) }
-    ensures refused { result ≡ Err PatternFault.BadPattern → spec.plain_or_regular None text.now ≡ None }
+    ensures form { IfOk result (spec.IsFormOf (spec.literal_or_regular None text.now)) }
+    ensures refused { result ≡ Err PatternFault.BadPattern → spec.literal_or_regular None text.now ≡ None }
 {
     if compiled(alloc, text)?.is_none() {
         return Err(PatternFault::BadPattern);
@@ -210,14 +210,14 @@ fn compiled(alloc: Global, text: &str) -> Result<Option<Regex>, NoMemory>
     }
 }
 
-// The text that a plain pattern means, or none for any other.
-fn plain(alloc: Global, text: &[u8]) -> Result<Option<Vec<u8>>, NoMemory>
-    ensures { IfOk result (λ plain. option_map (λ bytes. bytes.items) plain ≡ spec.plain_of text.now) }
+// The text that a literal pattern means, or none for any other.
+fn literal(alloc: Global, text: &[u8]) -> Result<Option<Vec<u8>>, NoMemory>
+    ensures { IfOk result (λ literal. option_map (λ bytes. bytes.items) literal ≡ spec.literal_of text.now) }
 {
     let mut bytes = Vec::new(alloc);
     let mut escaped = text.is_empty();
     for b in text {
-        match plain_byte(escaped, *b) {
+        match literal_byte(escaped, *b) {
             None => return Ok(None),
             Some(begins) => {
                 keep(&mut bytes, begins, *b)?;
@@ -229,7 +229,7 @@ fn plain(alloc: Global, text: &[u8]) -> Result<Option<Vec<u8>>, NoMemory>
 }
 
 fn keep(bytes: &mut Vec<u8>, begins: bool, b: u8) -> Result<(), NoMemory>
-    ensures { OnOk result (bytes.new.items ≡ bytes.old.items ++ spec.plain_part begins b) }
+    ensures { OnOk result (bytes.new.items ≡ bytes.old.items ++ spec.literal_part begins b) }
 {
     if !begins {
         bytes.push(b)?;
@@ -237,9 +237,9 @@ fn keep(bytes: &mut Vec<u8>, begins: bool, b: u8) -> Result<(), NoMemory>
     Ok(())
 }
 
-// Whether the byte is a backslash that begins a pair, where it may stand in a plain pattern.
-fn plain_byte(escaped: bool, b: u8) -> Option<bool>
-    ensures { result ≡ spec.plain_step escaped b }
+// Whether the byte is a backslash that begins a pair, where it may stand in a literal pattern.
+fn literal_byte(escaped: bool, b: u8) -> Option<bool>
+    ensures { result ≡ spec.literal_step escaped b }
 {
     if escaped {
         return if b == b'-' { Some(false) } else { None };

@@ -1,7 +1,10 @@
-use Rattle.std.proofs.Common.{◌∙◌, ap}
+use Rattle.std.proofs.Common.{string_bytes, ◌∙◌, ap}
+use Rattle.std.specs.Ordering.{nat_cmp}
+use Rattle.std.specs.Cmp.Lexicographic.{slice_cmp}
 use Rattle.std.proofs.lemmas.Result.{on_ok_weaker, on_err_weaker}
 use Rattle.op_base.specs.Maps.{shown_entries, with_entry}
-use Rattle.op_base.proofs.TableLemmas.{filled_inner, refilled_alike, added_inner}
+use Rattle.op_base.proofs.MapLemmas.{refilled_alike}
+use Rattle.op_base.proofs.TableLemmas.{filled_inner, added_inner}
 use Rattle.op_base.proofs.table.Table+Table+V.insert_in.Goals as goal
 
 pub returns-in-Some-clause-ok : goal.returns-in-Some-clause-ok
@@ -15,7 +18,7 @@ returns-in-Some-clause-ok g c =
 pub returns-in-Some-clause-err : goal.returns-in-Some-clause-err
 returns-in-Some-clause-err g c =
     on_err_weaker c.insert.result
-    (refilled_alike c.as_str.result.now c.in-Some.table.now c.insert.new.self c.self.inside.entries.entries
+    (refilled_alike string_bytes (slice_cmp nat_cmp) c.as_str.result.now c.in-Some.table.now c.insert.new.self c.self.inside.entries.entries
     (c.get_mut.follows.lender c.insert.new.self).entries c.args.self.now c.self.view_is c.in-Some.ensures.value
     (c.get_mut.follows.holds c.insert.new.self).0)
     c.insert.ensures.err
