@@ -1,4 +1,2 @@
 pub mod GrowthLemmas
-pub mod MapLemmas
-mod MemberLemmas
 pub mod OrderLemmas

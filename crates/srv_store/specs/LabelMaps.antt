@@ -1,20 +1,18 @@
--- Finite maps from label sets: lists of entries in label order, so that they compute.
-use Rattle.std.specs.Prelude.{List, [], ◌∷◌, ◌++◌, Option, Bool, fold, is_some, map, unwrap_or}
+-- Finite maps from label sets, in label order, and the staleness markers of label sets that a map hasn't.
+use Rattle.std.specs.Prelude.{List, Option, None, Bool, filter, is_some, map, not}
 use Rattle.std.specs.FinMap as finite
-use Rattle.std.specs.List.Sorted.{IsStrictlySortedBy}
+use Rattle.op_base.specs.declared.moment.Moment.{Moment}
 use Rattle.op_base.specs.Labels.{Texts, labels_cmp}
+use Rattle.op_base.specs.Maps.{keys_of}
+use Rattle.srv_store.specs.declared.entry.Entry.{Entry}
 
 -- label sets, each with a value
 abbrev pub LabelMap : Type 0 → Type 0
 LabelMap X = List (Texts × X)
 
--- the value at a label set
-abbrev pub value_of : {X : Type 0} → LabelMap X → Texts → Option X
-value_of entries labels = finite.find labels_cmp labels entries
-
 -- whether the label set is there
 abbrev pub has_labels : {X : Type 0} → LabelMap X → Texts → Bool
-has_labels entries labels = is_some (value_of entries labels)
+has_labels entries labels = is_some (finite.find labels_cmp labels entries)
 
 -- the map with the value at the label set, over any that stood there
 abbrev pub with_value : {X : Type 0} → LabelMap X → Texts → X → LabelMap X
@@ -22,20 +20,9 @@ with_value entries labels value = finite.put labels_cmp labels value entries
 
 -- the label sets in order
 abbrev pub labels_in : {X : Type 0} → LabelMap X → List Texts
-labels_in entries = map (λ entry. entry.0) entries
+labels_in entries = keys_of entries
 
--- the label sets strictly rise
-abbrev pub IsLabelMap : {X : Type 0} → LabelMap X → Type 0
-IsLabelMap entries = IsStrictlySortedBy labels_cmp (labels_in entries)
-
--- the things at a label set
-abbrev pub members_of : {X : Type 0} → LabelMap (List X) → Texts → List X
-members_of groups labels = unwrap_or (value_of groups labels) []
-
--- one thing more at a label set, behind those that stand there
-abbrev pub with_member : {X : Type 0} → LabelMap (List X) → Texts → X → LabelMap (List X)
-with_member groups labels member = with_value groups labels (members_of groups labels ++ member ∷ [])
-
--- things by label sets, those of one label set in their order
-abbrev pub grouped : {X : Type 0} → (X → Texts) → List X → LabelMap (List X)
-grouped labels_of members = fold (λ groups member. with_member groups (labels_of member) member) [] members
+-- a staleness marker at the moment for each of the label sets that the map hasn't
+abbrev pub stale_entries : {X : Type 0} → Moment → List Texts → LabelMap X → List Entry
+stale_entries t before given =
+    map (λ labels. record { labels = labels; at = t; value = None }) (filter (λ labels. not (has_labels given labels)) before)

@@ -1,5 +1,5 @@
 -- Stores of samples: lists of entries, and their filters. After Prometheus on staleness.
-use Rattle.std.specs.Prelude.{◌≡◌, ℕ, ℤ, pos, List, [], ◌∷◌, ◌++◌, Bool, true, ◌&&◌, Option, Some, None, filter, fold, is_some, map, int_le, int_lt, ◌≤ℤ◌, ◌^◌, if◌then◌else◌, bytes_eq, codes}
+use Rattle.std.specs.Prelude.{◌≡◌, ℕ, ℤ, List, [], ◌∷◌, ◌++◌, Bool, true, ◌&&◌, Option, Some, None, filter, fold, is_some, map, int_le, int_lt, if◌then◌else◌, bytes_eq}
 use Rattle.std.specs.Cmp.Lexicographic.{pointwise}
 use Rattle.std.specs.FinMap as finite
 use Rattle.std.specs.List.{list_all, list_any, flat_map}
@@ -8,9 +8,11 @@ use Rattle.std.specs.Ordering.{int_cmp, on, then_cmp}
 use Rattle.op_base.specs.declared.matcher.Matcher.{Matcher}
 use Rattle.op_base.specs.declared.moment.Moment.{Moment}
 use Rattle.op_base.specs.Labels.{Texts, entry_eq, labels_cmp}
+use Rattle.op_base.specs.declared.label_names.TheConstants.{NAMESPACE_LABEL}
+use Rattle.op_base.specs.Maps.{in_order, with_member}
 use Rattle.op_base.specs.Matchers.{holds_on, label_value}
 use Rattle.srv_store.specs.declared.entry.Entry.{Entry}
-use Rattle.srv_store.specs.LabelMaps.{LabelMap, value_of, with_value, with_member}
+use Rattle.srv_store.specs.LabelMaps.{LabelMap, with_value}
 
 -- the entries in the order in which they came
 abbrev pub Store : Type 0
@@ -58,10 +60,6 @@ AddsPrefix old new all = Grows old new × Grows new all
 abbrev pub all_hold : List Matcher → Texts → Bool
 all_hold matchers labels = list_all (λ matcher. holds_on matcher labels) matchers
 
--- a moment at which a store is asked: from 0 to 2^53
-abbrev pub IsTick : Moment → Type 0
-IsTick t = (pos 0 ≤ℤ t.0) × (t.0 ≤ℤ pos (2 ^ 53))
-
 -- a moment from one to another, both included
 abbrev pub is_within : ℤ → ℤ → Moment → Bool
 is_within from to at = int_le from at.0 && int_le at.0 to
@@ -79,7 +77,7 @@ is_newer (Some found) entry = int_lt found.at.0 entry.at.0
 -- what was found, with the entry where it is a newer one of its labels
 abbrev pub with_newer : LabelMap Entry → Entry → LabelMap Entry
 with_newer found entry =
-    if is_newer (value_of found entry.labels) entry then with_value found entry.labels entry else found
+    if is_newer (finite.find labels_cmp entry.labels found) entry then with_value found entry.labels entry else found
 
 -- of each label set its entry of the greatest moment
 abbrev pub latest : List Entry → LabelMap Entry
@@ -105,14 +103,6 @@ found_entry found = unless_stale found.1
 abbrev pub newest : Store → List Matcher → ℤ → ℤ → List Entry
 newest store matchers from to = flat_map found_entry (latest (window store matchers from to))
 
--- entries in the order of their keys with pairs put to them, each over any of the same key
-abbrev pub put_all : {K X : Type 0} → (K → K → Ordering) → List (K × X) → List (K × X) → List (K × X)
-put_all R entries pairs = fold (λ entries pair. finite.put R pair.0 pair.1 entries) entries pairs
-
--- pairs in the order of their keys, of two with the same key the later one's value
-abbrev pub in_order : {K X : Type 0} → (K → K → Ordering) → List (K × X) → List (K × X)
-in_order R pairs = put_all R [] pairs
-
 -- where an entry stands: at its labels, and there at its moment
 abbrev pub Place : Type 0
 Place = Texts × Moment
@@ -137,30 +127,27 @@ ordered entries = map entry_at (in_order place_cmp (map at_place entries))
 abbrev pub selected : Store → List Matcher → ℤ → ℤ → List Entry
 selected store matchers from to = ordered (window store matchers from to)
 
--- a sample's moment and value
-abbrev pub Sample : Type 0
-Sample = Moment × ℤ
+-- a moment and the value at it
+abbrev pub Point : Type 0
+Point = Moment × ℤ
 
--- a sample at the moment, where there is a value
-abbrev pub sample_of : Option ℤ → Moment → List Sample
-sample_of None at = []
-sample_of (Some value) at = (at, value) ∷ []
+-- the point at the moment, where there is a value
+abbrev pub point_of : Option ℤ → Moment → List Point
+point_of None at = []
+point_of (Some value) at = (at, value) ∷ []
 
--- one sample more of a label set, where the entry isn't stale
-abbrev pub with_sample : LabelMap (List Sample) → Entry → LabelMap (List Sample)
-with_sample series entry = fold (λ series sample. with_member series entry.labels sample) series (sample_of entry.value entry.at)
+-- one point more of a label set, where the entry isn't stale
+abbrev pub with_point : LabelMap (List Point) → Entry → LabelMap (List Point)
+with_point series entry =
+    fold (λ series point. with_member labels_cmp series entry.labels point) series (point_of entry.value entry.at)
 
--- of each label set in a window its samples in the order of their moments, without stale entries
-abbrev pub ranged : Store → List Matcher → ℤ → ℤ → LabelMap (List Sample)
-ranged store matchers from to = fold with_sample [] (selected store matchers from to)
-
--- the label that names the namespace that an entry belongs to
-abbrev pub HOME : List ℕ
-HOME = codes "namespace"
+-- of each label set in a window its points in the order of their moments, without stale entries
+abbrev pub ranged : Store → List Matcher → ℤ → ℤ → LabelMap (List Point)
+ranged store matchers from to = fold with_point [] (selected store matchers from to)
 
 -- the labels name the namespace
 abbrev pub owns : List ℕ → Texts → Bool
-owns namespace labels = bytes_eq namespace (label_value labels HOME)
+owns namespace labels = bytes_eq namespace (label_value labels NAMESPACE_LABEL.now)
 
 -- the entries of one namespace
 abbrev pub of_namespace : List ℕ → Store → Store

@@ -6,10 +6,10 @@
 
 mod entry;
 mod map;
-mod order;
+mod stale;
 mod store;
 
 pub use entry::Entry;
 pub use map::LabelMap;
-pub use order::in_order;
+pub use stale::push_stale;
 pub use store::Store;

@@ -5,8 +5,7 @@ ghost use Rattle.srv_store.specs.Stores as spec;
 
 use crate::entry::Entry;
 use crate::map::LabelMap;
-use crate::order::in_order;
-use op_base::{Labels, List, Matcher, Moment, NoMemory, PreparedMatcher};
+use op_base::{Labels, List, Matcher, Moment, NoMemory, PreparedMatcher, in_order};
 use std::alloc::Global;
 use std::marker::Model;
 
@@ -336,21 +335,21 @@ fn entries_of(
 
 // The samples of entries that stand by labels and moments.
 fn series_of(alloc: Global, entries: List<Entry>) -> Result<LabelMap<List<(Moment, i64)>>, NoMemory>
-    ensures { IfOk result (λ series. series ≡ fold spec.with_sample [] entries) }
+    ensures { IfOk result (λ series. series ≡ fold spec.with_point [] entries) }
 {
     let mut series = LabelMap::new(alloc);
     for entry in entries.into_vec() {
-        add_sample(alloc, &mut series, entry)?;
+        add_point(alloc, &mut series, entry)?;
     }
     Ok(series)
 }
 
-fn add_sample(
+fn add_point(
     alloc: Global,
     series: &mut LabelMap<List<(Moment, i64)>>,
     entry: Entry,
 ) -> Result<(), NoMemory>
-    ensures { OnOk result (series.new ≡ spec.with_sample series.old entry) }
+    ensures { OnOk result (series.new ≡ spec.with_point series.old entry) }
 {
     let Entry { labels, at, value } = entry;
     match value {

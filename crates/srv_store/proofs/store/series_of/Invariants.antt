@@ -7,4 +7,4 @@ abbrev pub invariant-loop-entry : goal.invariant-loop-entry
 invariant-loop-entry l =
     goal.iterator-loop-entry.can_next l.entry-iterator ×
     goal.iterator-loop-entry.is_finite l.entry-iterator ×
-    (fold spec.with_sample [] l.initial.entry-iterator.rest.items ≡ fold spec.with_sample l.series l.entry-iterator.rest.items)
+    (fold spec.with_point [] l.initial.entry-iterator.rest.items ≡ fold spec.with_point l.series l.entry-iterator.rest.items)

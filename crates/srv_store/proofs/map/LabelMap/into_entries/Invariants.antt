@@ -1,8 +1,0 @@
-use Rattle.std.proofs.Common.{◌≡◌, ◌++◌}
-use Rattle.srv_store.proofs.map.LabelMap.into_entries.Given as goal
-
-abbrev pub invariant-loop-entry : goal.invariant-loop-entry
-invariant-loop-entry g l =
-    (goal.iterator-loop-entry g).can_next l.entry-iterator ×
-    (goal.iterator-loop-entry g).is_finite l.entry-iterator ×
-    (l.initial.entry-iterator ≡ l.all ++ l.entry-iterator)
