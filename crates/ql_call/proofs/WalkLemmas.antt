@@ -1,9 +1,9 @@
 -- The walk from the last element to the first finds the least clash.
 use Rattle.std.proofs.Common.{◌≡◌, ℕ, suc, ◌+◌, ◌-◌, ◌<◌, List, [], ◌∷◌, Some, cond, length, drop, get_or, refl, ap, sym, ◌∙◌, arith}
 use Rattle.std.proofs.Math.Seq.{drop-cons}
-use Rattle.std.specs.FinMap.Entries.{find-put}
+use Rattle.std.specs.FinMap.Entries.{find, find-put}
 use Rattle.op_base.specs.Labels.{Texts, labels_cmp, labels_ties}
-use Rattle.srv_store.specs.LabelMaps.{value_of, with_value}
+use Rattle.srv_store.specs.LabelMaps.{with_value}
 use Rattle.srv_store.specs.Stores.{same_labels}
 use Rattle.srv_store.proofs.OrderLemmas.{labels_total}
 use Rattle.ql_call.specs.Clashes.{partner, pair_or, first_clash}
@@ -12,11 +12,11 @@ use Rattle.ql_call.specs.declared.changed.Changed.{Changed}
 use Rattle.ql_call.specs.declared.clashes.Walk.{Walk}
 
 -- the partner of labels is the nearest element that has them
-nearest-partner : (labels : Texts) (changed : List Changed) → value_of (nearest changed) labels ≡ partner labels changed
+nearest-partner : (labels : Texts) (changed : List Changed) → find labels_cmp labels (nearest changed) ≡ partner labels changed
 nearest-partner labels [] = refl
 nearest-partner labels (c ∷ changed) =
     find-put labels_cmp labels_total labels c.to c.from (nearest changed)
-    ∙ ap (λ b. cond b (Some c.from) (value_of (nearest changed) labels)) (sym (labels_ties labels c.to))
+    ∙ ap (λ b. cond b (Some c.from) (find labels_cmp labels (nearest changed))) (sym (labels_ties labels c.to))
     ∙ ap (cond (same_labels labels c.to) (Some c.from)) (nearest-partner labels changed)
 
 -- one element more, in front

@@ -3,8 +3,9 @@
 use Rattle.std.specs.Prelude.{ℕ, ℤ, pos, List, [], ◌∷◌, ◌++◌, Bool, true, false, Option, Some, None, fold, length, map, int_div}
 use Rattle.std.specs.Fmt.{signed_decimal}
 use Rattle.std.specs.Int.{int_max, int_min}
-use Rattle.op_base.specs.Labels.{Texts, labels_with}
-use Rattle.srv_store.specs.LabelMaps.{LabelMap, grouped}
+use Rattle.op_base.specs.Labels.{Texts, labels_with, labels_cmp}
+use Rattle.op_base.specs.Maps.{grouped}
+use Rattle.srv_store.specs.LabelMaps.{LabelMap}
 use Rattle.ql_tree.specs.Arithmetic.{clamped}
 use Rattle.ql_tree.specs.declared.tree.AggregateOp.{AggregateOp}
 use Rattle.ql_tree.specs.declared.tree.AggregateOp.TheVariants.{Sum, Min, Max, Avg, Count, CountValues, TopK, BottomK}
@@ -26,7 +27,7 @@ group_key (Some g) labels = group_by g.by g.labels labels
 
 -- the elements by the labels that the grouping leaves of theirs
 abbrev pub groups_of : Option Grouping → List Element → LabelMap (List Element)
-groups_of g elements = grouped (λ (e : Element). group_key g e.0) elements
+groups_of g elements = grouped labels_cmp (λ (e : Element). group_key g e.0) elements
 
 -- the least and the greatest of numbers, of which there is one
 abbrev pub least : List ℤ → ℤ

@@ -14,7 +14,7 @@ use Rattle.ql_call.specs.LabelCalls.{label_replace, label_join}
 use Rattle.ql_call.specs.Operands.{elements_of, elements_at, scalar_at, text_at, text_of}
 use Rattle.ql_call.specs.Operators.{changed_to, changed_by}
 use Rattle.ql_call.specs.Over.{over, SECOND}
-use Rattle.srv_store.specs.Stores.{Sample}
+use Rattle.srv_store.specs.Stores.{Point}
 use Rattle.ql_call.specs.declared.changed.Changed.{Changed}
 use Rattle.ql_call.specs.declared.function.Function.{Function}
 use Rattle.ql_call.specs.declared.function.Function.TheVariants as function
@@ -47,7 +47,7 @@ abbrev pub absent : Operand → Outcome
 absent (operand.Text text) = one_where_empty {X = Element} [] []
 absent (operand.Selected elements moments labels) = one_where_empty labels elements
 absent (operand.Ranged series range labels) = one_where_empty labels series
-absent (operand.Plain given) = one_where_empty [] (elements_of (operand.Plain given))
+absent (operand.Value given) = one_where_empty [] (elements_of (operand.Value given))
 
 -- the name stays with `last_over_time` alone
 abbrev pub over_labels : RangeFunction → Texts → Texts
@@ -55,11 +55,11 @@ over_labels range_function.Last labels = labels
 over_labels _ labels = without_name labels
 
 -- what a function makes of one range of samples, with the labels that it leaves
-abbrev pub over_one : RangeFunction → Span → Texts × List Sample → List Changed
+abbrev pub over_one : RangeFunction → Span → Texts × List Point → List Changed
 over_one f range series = changed_by series.0 (over_labels f series.0) (over f series.1 range)
 
 -- what a function makes of each range of samples
-abbrev pub over_series : RangeFunction → Span → List (Texts × List Sample) → Outcome
+abbrev pub over_series : RangeFunction → Span → List (Texts × List Point) → Outcome
 over_series f range series = gathered (flat_map (over_one f range) series)
 
 -- a function of a range, of each label set that has a sample in it
@@ -67,7 +67,7 @@ abbrev pub over_operand : RangeFunction → Operand → Outcome
 over_operand f (operand.Text text) = outcome.Vector []
 over_operand f (operand.Selected elements moments labels) = outcome.Vector []
 over_operand f (operand.Ranged series range labels) = over_series f range series
-over_operand f (operand.Plain given) = outcome.Vector []
+over_operand f (operand.Value given) = outcome.Vector []
 
 -- values between two bounds; nothing where the lower is above the upper
 abbrev pub between : ℤ → ℤ → ℤ → ℤ
@@ -92,7 +92,7 @@ abbrev pub timestamp : Moment → Operand → Outcome
 timestamp t (operand.Text text) = outcome.Vector []
 timestamp t (operand.Selected elements moments labels) = gathered (stamped elements moments)
 timestamp t (operand.Ranged series range labels) = outcome.Vector []
-timestamp t (operand.Plain given) = each_value (λ n. seconds_of t) (elements_of (operand.Plain given))
+timestamp t (operand.Value given) = each_value (λ n. seconds_of t) (elements_of (operand.Value given))
 
 -- the first operand, which is a text where there is none
 abbrev pub first_of : List Operand → Operand

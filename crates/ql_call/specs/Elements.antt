@@ -1,20 +1,17 @@
 -- The elements of vectors and their labels. A vector is a finite map from label sets to numbers.
-use Rattle.std.specs.Prelude.{ℕ, ℤ, pos, List, [], codes, fold, map, ◌+ℤ◌}
+use Rattle.std.specs.Prelude.{ℕ, ℤ, pos, List, [], fold, map, ◌+ℤ◌}
 use Rattle.op_base.specs.Maps.{without_entry}
 use Rattle.op_base.specs.Labels.{Texts, labels_with}
 use Rattle.op_base.specs.Matchers.{label_value}
+use Rattle.op_base.specs.declared.label_names.TheConstants.{METRIC_NAME}
 
 -- labels and a value
 abbrev pub Element : Type 0
 Element = Texts × ℤ
 
--- the label that holds a metric's name
-abbrev pub NAME : List ℕ
-NAME = codes "__name__"
-
 -- the labels without the metric's name
 abbrev pub without_name : Texts → Texts
-without_name labels = without_entry labels NAME
+without_name labels = without_entry labels METRIC_NAME.now
 
 -- the labels of these names alone
 abbrev pub only : List (List ℕ) → Texts → Texts

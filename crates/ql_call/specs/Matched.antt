@@ -3,9 +3,10 @@
 -- key. A key that two elements of the one side have finds none.
 use Rattle.std.specs.Prelude.{ℕ, ℤ, List, [], ◌∷◌, Bool, true, false, Option, Some, None, fold, map, if◌then◌else◌}
 use Rattle.std.specs.List.{flat_map}
-use Rattle.op_base.specs.Labels.{Texts, labels_with}
+use Rattle.op_base.specs.Labels.{Texts, labels_with, labels_cmp}
 use Rattle.op_base.specs.Matchers.{label_value}
-use Rattle.srv_store.specs.LabelMaps.{LabelMap, grouped, members_of}
+use Rattle.op_base.specs.Maps.{grouped, members_at}
+use Rattle.srv_store.specs.LabelMaps.{LabelMap}
 use Rattle.ql_tree.specs.declared.tree.BinaryOp.{BinaryOp}
 use Rattle.ql_tree.specs.declared.tree.Matching.{Matching}
 use Rattle.ql_tree.specs.declared.tree.Side.{Side}
@@ -66,7 +67,7 @@ keyed m e = changed_to e.0 (key_of m e.0) e.1
 
 -- the elements of the one side by their keys
 abbrev pub ones_by_key : Option Matching → List Element → LabelMap (List Element)
-ones_by_key m ones = grouped (λ (e : Element). key_of m e.0) ones
+ones_by_key m ones = grouped labels_cmp (λ (e : Element). key_of m e.0) ones
 
 -- the only one, if there is just one
 abbrev pub sole : List Element → Option Element
@@ -87,7 +88,7 @@ pair_result op boolean m many (Some one) =
 
 -- what an element of the many side gives with the one element of its key on the other side
 abbrev pub result_of : BinaryOp → Bool → Option Matching → LabelMap (List Element) → Element → List Changed
-result_of op boolean m ones many = pair_result op boolean m many (sole (members_of ones (key_of m many.0)))
+result_of op boolean m ones many = pair_result op boolean m many (sole (members_at labels_cmp ones (key_of m many.0)))
 
 -- the results of all elements of the many side
 abbrev pub results_of : BinaryOp → Bool → Option Matching → List Element → List Element → List Changed

@@ -21,7 +21,7 @@ abbrev pub elements_of : Operand → List Element
 elements_of (operand.Text text) = []
 elements_of (operand.Selected elements moments labels) = elements
 elements_of (operand.Ranged series range labels) = []
-elements_of (operand.Plain given) = outcome_elements given
+elements_of (operand.Value given) = outcome_elements given
 
 -- the number, where the operand is a scalar
 abbrev pub outcome_scalar : Outcome → Option ℤ
@@ -35,14 +35,14 @@ abbrev pub scalar_of : Operand → Option ℤ
 scalar_of (operand.Text text) = None
 scalar_of (operand.Selected elements moments labels) = None
 scalar_of (operand.Ranged series range labels) = None
-scalar_of (operand.Plain given) = outcome_scalar given
+scalar_of (operand.Value given) = outcome_scalar given
 
 -- the text of a string
 abbrev pub text_of : Operand → List ℕ
 text_of (operand.Text text) = text
 text_of (operand.Selected elements moments labels) = []
 text_of (operand.Ranged series range labels) = []
-text_of (operand.Plain given) = []
+text_of (operand.Value given) = []
 
 -- of the operand with that number, from 0 on
 abbrev pub elements_at : ℕ → List Operand → List Element
@@ -72,7 +72,7 @@ abbrev pub failure_of : Operand → Option Outcome
 failure_of (operand.Text text) = None
 failure_of (operand.Selected elements moments labels) = None
 failure_of (operand.Ranged series range labels) = None
-failure_of (operand.Plain given) = failure given
+failure_of (operand.Value given) = failure given
 
 -- the first failure, where there is one, else the later one
 abbrev pub or_else : Option Outcome → Option Outcome → Option Outcome
@@ -93,4 +93,4 @@ abbrev pub outcome_of : Operand → Outcome
 outcome_of (operand.Text text) = outcome.Vector []
 outcome_of (operand.Selected elements moments labels) = outcome.Vector elements
 outcome_of (operand.Ranged series range labels) = outcome.Vector []
-outcome_of (operand.Plain given) = given
+outcome_of (operand.Value given) = given

@@ -2,7 +2,7 @@
 use Rattle.std.specs.Prelude.{ℕ, ◌+◌, ℤ, pos, List, [], ◌∷◌, Bool, Option, Some, None, ◌+ℤ◌, ◌-ℤ◌, ◌*ℤ◌, length, map, not, int_div, int_lt, if◌then◌else◌}
 use Rattle.std.specs.Ordering.{int_eq}
 use Rattle.op_base.specs.declared.span.Span.{Span}
-use Rattle.srv_store.specs.Stores.{Sample}
+use Rattle.srv_store.specs.Stores.{Point}
 use Rattle.ql_tree.specs.Arithmetic.{clamped}
 use Rattle.ql_call.specs.Aggregates.{least, greatest, average}
 use Rattle.ql_call.specs.Elements.{total}
@@ -10,8 +10,8 @@ use Rattle.ql_call.specs.declared.function.RangeFunction.{RangeFunction}
 use Rattle.ql_call.specs.declared.function.RangeFunction.TheVariants.{Avg, Sum, Min, Max, Count, Last, Present, Changes, Resets, Increase, Rate}
 
 -- the values of samples
-abbrev pub sample_values : List Sample → List ℤ
-sample_values samples = map (λ (sample : Sample). sample.1) samples
+abbrev pub point_values : List Point → List ℤ
+point_values samples = map (λ (point : Point). point.1) samples
 
 -- the last of numbers, of which there is one
 abbrev pub newest_of : List ℤ → ℤ
@@ -83,5 +83,5 @@ over_some function range [] = None
 over_some function range (n ∷ numbers) = number_over function range (n ∷ numbers)
 
 -- what a function makes of a range of samples
-abbrev pub over : RangeFunction → List Sample → Span → Option ℤ
-over function samples range = over_some function range (sample_values samples)
+abbrev pub over : RangeFunction → List Point → Span → Option ℤ
+over function samples range = over_some function range (point_values samples)

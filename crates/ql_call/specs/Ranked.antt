@@ -5,7 +5,8 @@ use Rattle.std.specs.List.{flat_map}
 use Rattle.std.specs.declared.cmp.Ordering.{Ordering}
 use Rattle.std.specs.Ordering.{int_cmp, on, then_cmp}
 use Rattle.op_base.specs.Labels.{Texts, labels_cmp}
-use Rattle.srv_store.specs.Stores.{Vector, in_order}
+use Rattle.op_base.specs.Maps.{in_order}
+use Rattle.srv_store.specs.Stores.{Vector}
 use Rattle.ql_call.specs.Elements.{Element}
 
 -- a weight, and labels

@@ -1,8 +1,8 @@
 -- `and`, `unless` and `or`, which compare keys alone, and all operators of two operands.
 use Rattle.std.specs.Prelude.{ℤ, List, ◌++◌, Bool, Option, Some, None, filter, not}
 use Rattle.op_base.specs.Labels.{labels_cmp}
+use Rattle.op_base.specs.Maps.{in_order}
 use Rattle.srv_store.specs.LabelMaps.{has_labels}
-use Rattle.srv_store.specs.Stores.{in_order}
 use Rattle.ql_tree.specs.declared.tree.BinaryOp.{BinaryOp}
 use Rattle.ql_tree.specs.declared.tree.BinaryOp.TheVariants.{And, Unless, Or}
 use Rattle.ql_tree.specs.declared.tree.Matching.{Matching}

@@ -1,8 +1,9 @@
 -- The walk that finds the least clash, from the last element to the first.
 use Rattle.std.specs.Prelude.{List, [], ◌∷◌, Bool}
+use Rattle.std.specs.FinMap as finite
 use Rattle.std.specs.Ordering.{is_le}
-use Rattle.op_base.specs.Labels.{Texts}
-use Rattle.srv_store.specs.LabelMaps.{LabelMap, value_of, with_value}
+use Rattle.op_base.specs.Labels.{Texts, labels_cmp}
+use Rattle.srv_store.specs.LabelMaps.{LabelMap, with_value}
 use Rattle.ql_call.specs.Clashes.{Pair, pair_cmp, pair_or, first_clash}
 use Rattle.ql_call.specs.declared.changed.Changed.{Changed}
 use Rattle.ql_call.specs.declared.clashes.Walk.{Walk}
@@ -10,7 +11,7 @@ use Rattle.ql_call.specs.declared.clashes.Walk.{Walk}
 -- one element more, in front
 abbrev pub stepped : Walk → Changed → Walk
 stepped walk c = record {
-  clash = pair_or c.from (value_of walk.nearest c.to) walk.clash;
+  clash = pair_or c.from (finite.find labels_cmp c.to walk.nearest) walk.clash;
   nearest = with_value walk.nearest c.to c.from;
 }
 

@@ -1,7 +1,8 @@
 // Aggregates of the elements of a vector.
 ghost use Rattle.std.specs.Prelude.{◌≡◌, Some, ◌++◌, ◌∷◌, [], map, IfOk, OnOk};
 ghost use Rattle.std.specs.Fmt.{signed_decimal};
-ghost use Rattle.srv_store.specs.LabelMaps.{with_member};
+ghost use Rattle.op_base.specs.Maps.{with_member};
+ghost use Rattle.op_base.specs.Labels.{labels_cmp};
 ghost use Rattle.ql_call.specs.Aggregates as spec;
 ghost use Rattle.ql_call.specs.Elements.{values_in};
 ghost use Rattle.ql_call.specs.Ranked as ranks;
@@ -70,7 +71,7 @@ fn add_element(
     grouping: &Option<Grouping>,
     element: &(Labels, i64),
 ) -> Result<(), NoMemory>
-    ensures { OnOk result (groups.new ≡ with_member groups.old (spec.group_key grouping.now element.now.0) element.now) }
+    ensures { OnOk result (groups.new ≡ with_member labels_cmp groups.old (spec.group_key grouping.now element.now.0) element.now) }
 {
     let key = group_key(alloc, grouping, &element.0)?;
     groups.add(alloc, key, (element.0.copy()?, element.1))

@@ -1,14 +1,16 @@
 // The keys by which the elements of two vectors are matched.
 ghost use Rattle.std.specs.Prelude.{◌≡◌, map, IfOk, OnOk};
 ghost use Rattle.std.specs.Option.{option_copied};
+ghost use Rattle.op_base.specs.Labels.{labels_cmp};
+ghost use Rattle.op_base.specs.Maps.{members_at};
 ghost use Rattle.srv_store.specs.LabelMaps as maps;
 ghost use Rattle.ql_call.specs.Matched as spec;
 ghost use Rattle.ql_call.specs.Keyed as steps;
 
 use crate::changed::Changed;
-use crate::labels::{NAME, only, without};
+use crate::labels::{only, without};
 use crate::operators::{changed_to, copy_of};
-use op_base::{Labels, List, NoMemory, Text};
+use op_base::{Labels, List, METRIC_NAME, NoMemory, Text};
 use ql_tree::Matching;
 use srv_store::LabelMap;
 use std::alloc::Global;
@@ -34,7 +36,7 @@ fn key_by(alloc: Global, on: bool, names: &[Text], labels: &Labels) -> Result<La
         return only(alloc, names, labels);
     }
     let mut key = without(names, labels)?;
-    key.remove(NAME);
+    key.remove(METRIC_NAME);
     Ok(key)
 }
 
@@ -99,10 +101,10 @@ pub(crate) fn partner_of<'a>(
 }
 
 fn sole_at<'a>(by_key: &'a LabelMap<List<(Labels, i64)>>, key: &Labels) -> Option<&'a (Labels, i64)>
-    ensures { option_copied result ≡ spec.sole (maps.members_of by_key.now key.now) }
+    ensures { option_copied result ≡ spec.sole (members_at labels_cmp by_key.now key.now) }
 {
-    match by_key.get(key) {
-        Some(elements) if elements.len() == 1 => elements.get(0),
+    match by_key.members(key) {
+        [element] => Some(element),
         _ => None,
     }
 }

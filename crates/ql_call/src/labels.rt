@@ -4,17 +4,15 @@ ghost use Rattle.op_base.specs.Labels.{labels_with};
 ghost use Rattle.op_base.specs.Matchers.{label_value};
 ghost use Rattle.ql_call.specs.Elements as spec;
 
-use op_base::{Labels, NoMemory, Text};
+use op_base::{Labels, METRIC_NAME, NoMemory, Text};
 use std::alloc::Global;
-
-pub(crate) const NAME: &str = "__name__";
 
 /// The labels without the name.
 pub(crate) fn without_name(labels: &Labels) -> Result<Labels, NoMemory>
     ensures { IfOk result (λ kept. kept ≡ spec.without_name labels.now) }
 {
     let mut kept = labels.copy()?;
-    kept.remove(NAME);
+    kept.remove(METRIC_NAME);
     Ok(kept)
 }
 

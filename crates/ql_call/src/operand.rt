@@ -18,7 +18,7 @@ pub enum Operand {
     /// moments, how long the range is, and the labels that `absent_over_time` of it has.
     Ranged(List<(Labels, List<(Moment, i64)>)>, Span, Labels),
     /// Any other node.
-    Plain(Outcome),
+    Value(Outcome),
 }
 
 /// The elements of an operand, which has none where it is no vector.
@@ -27,7 +27,7 @@ pub(crate) fn elements_of(operand: &Operand) -> &[(Labels, i64)]
 {
     match operand {
         Operand::Selected(elements, _, _) => elements.as_slice(),
-        Operand::Plain(Outcome::Vector(elements)) => elements.as_slice(),
+        Operand::Value(Outcome::Vector(elements)) => elements.as_slice(),
         _ => &[],
     }
 }
@@ -37,7 +37,7 @@ pub(crate) fn scalar_of(operand: &Operand) -> Option<i64>
     ensures { result ≡ spec.scalar_of operand.now }
 {
     match operand {
-        Operand::Plain(Outcome::Scalar(number)) => Some(*number),
+        Operand::Value(Outcome::Scalar(number)) => Some(*number),
         _ => None,
     }
 }
@@ -105,10 +105,10 @@ fn failure_of(operand: &Operand) -> Result<Option<Outcome>, NoMemory>
     ensures { IfOk result (λ failure. failure ≡ spec.failure_of operand.now) }
 {
     match operand {
-        Operand::Plain(Outcome::Clash(these, those)) => {
+        Operand::Value(Outcome::Clash(these, those)) => {
             Ok(Some(Outcome::Clash(these.copy()?, those.copy()?)))
         }
-        Operand::Plain(Outcome::ZeroScalar) => Ok(Some(Outcome::ZeroScalar)),
+        Operand::Value(Outcome::ZeroScalar) => Ok(Some(Outcome::ZeroScalar)),
         _ => Ok(None),
     }
 }
@@ -119,7 +119,7 @@ pub fn outcome_of(alloc: Global, operand: Operand) -> Outcome
 {
     match operand {
         Operand::Selected(elements, _, _) => Outcome::Vector(elements),
-        Operand::Plain(outcome) => outcome,
+        Operand::Value(outcome) => outcome,
         _ => Outcome::Vector(List::new(alloc)),
     }
 }

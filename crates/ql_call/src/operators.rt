@@ -6,10 +6,10 @@ ghost use Rattle.ql_call.specs.Operators as spec;
 use crate::arithmetic::{negative, number_of};
 use crate::changed::Changed;
 use crate::clashes::gathered;
-use crate::labels::{NAME, without_name};
+use crate::labels::without_name;
 use crate::operand::{Operand, elements_at, number_at};
 use crate::outcome::Outcome;
-use op_base::{Labels, List, NoMemory};
+use op_base::{Labels, List, METRIC_NAME, NoMemory};
 use ql_tree::BinaryOp;
 use std::alloc::Global;
 
@@ -121,7 +121,7 @@ pub(crate) fn named_by(op: BinaryOp, boolean: bool, mut labels: Labels) -> Label
     ensures { result ≡ spec.named_by op boolean labels }
 {
     if drops_name(op, boolean) {
-        labels.remove(NAME);
+        labels.remove(METRIC_NAME);
     }
     labels
 }

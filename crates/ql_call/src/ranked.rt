@@ -4,8 +4,8 @@ ghost use Rattle.std.specs.List.{flat_map};
 ghost use Rattle.ql_call.specs.Kept.{kept_of as kept_of_group};
 ghost use Rattle.ql_call.specs.Ranked as spec;
 
-use op_base::{Labels, List, NoMemory};
-use srv_store::{LabelMap, in_order};
+use op_base::{Labels, List, NoMemory, in_order};
+use srv_store::LabelMap;
 use std::alloc::Global;
 
 // A weight and labels: of two ranks the lesser one goes first.

@@ -1,7 +1,7 @@
 // `and`, `unless` and `or`, which compare keys alone, and all operators on two operands.
 ghost use Rattle.std.specs.Prelude.{◌≡◌, [], ◌∷◌, ◌++◌, filter, IfOk, OnOk, if◌then◌else◌};
 ghost use Rattle.op_base.specs.Labels.{labels_cmp};
-ghost use Rattle.srv_store.specs.Stores.{in_order as ordered};
+ghost use Rattle.op_base.specs.Maps.{in_order as ordered};
 ghost use Rattle.ql_call.specs.Keyed as steps;
 ghost use Rattle.ql_call.specs.Operands as given;
 ghost use Rattle.ql_call.specs.Sets as spec;
@@ -11,9 +11,9 @@ use crate::matching::matched;
 use crate::operand::{Operand, elements_at, number_at};
 use crate::operators::{copied, copy_of, of_left_vector, of_right_vector, of_scalars};
 use crate::outcome::Outcome;
-use op_base::{Labels, List, NoMemory};
+use op_base::{Labels, List, NoMemory, in_order};
 use ql_tree::{BinaryOp, Matching};
-use srv_store::{LabelMap, in_order};
+use srv_store::LabelMap;
 use std::alloc::Global;
 
 /// An operator on two operands, each a scalar or a vector.
