@@ -7,8 +7,8 @@ use Rattle.std.specs.Ordering.{nat_cmp}
 use Rattle.op_base.specs.Maps.{value_at}
 use Rattle.op_base.specs.declared.matcher.Matcher.{Matcher}
 use Rattle.op_base.specs.Labels.{labels_with}
+use Rattle.op_base.specs.declared.label_names.TheConstants.{METRIC_NAME}
 use Rattle.ql_tree.specs.Enforced.{is_on, matcher_of}
-use Rattle.ql_call.specs.Elements.{NAME}
 use Rattle.ql_eval.specs.Absent.{Given, nothing_given, is_given, gives, with_label, without_label, after_matcher, given_labels, absent_labels}
 use Rattle.ql_eval.specs.Selected.{is_asked, asked_of, with_name}
 use Rattle.ql_eval.proofs.MatcherLemmas.{apart_too, label, passed-over}
@@ -26,7 +26,7 @@ module _ (name value : List ℕ) where
   -- a matcher on another name leaves that so
   after-other : (given : Given) (m : Matcher) → is_on name m ≡ false → IsFree given → IsFree (after_matcher given m)
   after-other given m other free =
-      elim (bytes_eq m.name NAME) as (λ b. IsFree (cond b given (cond (gives given m) (with_label given m) (without_label given m)))) [
+      elim (bytes_eq m.name METRIC_NAME.now) as (λ b. IsFree (cond b given (cond (gives given m) (with_label given m) (without_label given m)))) [
         | true ↦ free
         | false ↦ elim (gives given m) as (λ b. IsFree (cond b (with_label given m) (without_label given m))) [
           | true ↦ ap is_some (find-put (slice_cmp nat_cmp) nat_list_cmp_total name m.name tt given.names)
@@ -50,7 +50,7 @@ module _ (name value : List ℕ) where
       ] refl
 
   -- so the added matcher puts the label
-  puts : (given : Given) → bytes_eq name NAME ≡ false → IsFree given
+  puts : (given : Given) → bytes_eq name METRIC_NAME.now ≡ false → IsFree given
       → (after_matcher given (matcher_of name value)).labels ≡ labels_with given.labels name value
   puts given apart free =
       let m = matcher_of name value in
@@ -58,7 +58,7 @@ module _ (name value : List ℕ) where
       ∙ ap (λ b. (cond (not b) (with_label given m) (without_label given m)).labels) free
 
   -- beside the label the same labels are given as with the added matcher
-  pub absent-alike : bytes_eq name NAME ≡ false → (metric : Option (List ℕ)) (matchers : List Matcher)
+  pub absent-alike : bytes_eq name METRIC_NAME.now ≡ false → (metric : Option (List ℕ)) (matchers : List Matcher)
       → absent_labels [] (asked_of (label name value) metric matchers ++ matcher_of name value ∷ [])
       ≡ absent_labels (label name value) (asked_of (label name value) metric matchers)
   absent-alike apart metric matchers =

@@ -2,14 +2,14 @@
 -- its operands on both sides, and the selector gives the same.
 use Rattle.std.proofs.Common.{◌≡◌, ℕ, false, List, [], ◌∷◌, bytes_eq, map, refl, sym, ap, ap₂, subst, ◌∙◌}
 use Rattle.op_base.specs.declared.moment.Moment.{Moment}
-use Rattle.srv_store.specs.Stores.{Store, HOME}
+use Rattle.op_base.specs.declared.label_names.TheConstants.{METRIC_NAME, NAMESPACE_LABEL}
+use Rattle.srv_store.specs.Stores.{Store}
 use Rattle.ql_tree.specs.Enforced.{enforced, enforced_matchers, enforce_step}
 use Rattle.ql_tree.specs.declared.tree.Expr.{Expr}
 use Rattle.ql_tree.specs.declared.tree.Expr.TheOpen.{Expr-F}
 use Rattle.ql_tree.specs.declared.tree.Expr.TheViews.{roll-Expr}
 use Rattle.ql_tree.specs.declared.tree.Expr.TheFolds.{map-Expr, fold-roll-Expr, ind-Expr}
 use Rattle.ql_tree.specs.declared.tree.Expr.TheVariants as expr
-use Rattle.ql_call.specs.Elements.{NAME}
 use Rattle.ql_call.specs.Operands.{outcome_of}
 use Rattle.ql_call.specs.declared.operand.Operand.{Operand}
 use Rattle.ql_eval.specs.Enforcement.{IsEnforcedAlike}
@@ -37,7 +37,7 @@ module _ (name value : List ℕ) where
   steps (Expr-F.Call function args) = sym (expr.rolls-Call function args)
   steps (Expr-F.Aggregate op g param of) = sym (expr.rolls-Aggregate op g param of)
 
-  module _ (apart : bytes_eq name NAME ≡ false) (store : Store) (t : Moment) where
+  module _ (apart : bytes_eq name METRIC_NAME.now ≡ false) (store : Store) (t : Moment) where
     -- what a tree gives over the whole store, and over the entries that have the label
     abbrev over_whole : Expr → Operand
     over_whole = operand_of (whole store t)
@@ -92,11 +92,11 @@ module _ (name value : List ℕ) where
 
 -- the value of an expression with a label enforced is that of the expression as it is written, over the
 -- entries that have the label
-pub value-of-enforced : (name value : List ℕ) → bytes_eq name NAME ≡ false → (e : Expr) (store : Store) (t : Moment)
+pub value-of-enforced : (name value : List ℕ) → bytes_eq name METRIC_NAME.now ≡ false → (e : Expr) (store : Store) (t : Moment)
     → value_of (whole store t) (enforced name value e) ≡ value_of (around_own name value store t) e
 unfolding value_of
 value-of-enforced name value apart e store t = ap outcome_of (operand-of name value apart store t e)
 
 -- so it is for a namespace
 pub value-of-enforced-home : IsEnforcedAlike
-value-of-enforced-home namespace e store t = value-of-enforced HOME namespace refl e store t
+value-of-enforced-home namespace e store t = value-of-enforced NAMESPACE_LABEL.now namespace refl e store t

@@ -4,8 +4,8 @@ use Rattle.std.specs.Ordering.{nat_cmp, eq_by_cmp}
 use Rattle.std.specs.Cmp.Lexicographic.{slice_cmp, texts_ties, nat_list_eq_equiv}
 use Rattle.op_base.specs.declared.matcher.Matcher.{Matcher}
 use Rattle.op_base.specs.Labels.{Texts}
+use Rattle.op_base.specs.declared.label_names.TheConstants.{METRIC_NAME}
 use Rattle.ql_tree.specs.Enforced.{is_on, matcher_of, enforced_matchers}
-use Rattle.ql_call.specs.Elements.{NAME}
 use Rattle.ql_eval.specs.Selected.{name_matcher, with_name, is_asked, asked_of}
 
 -- two texts that differ, in the other order
@@ -46,10 +46,10 @@ module _ (name value : List ℕ) where
   added matchers = all-asked (enforced_matchers name value matchers) ∙ ap (λ ms. ms ++ matcher_of name value ∷ []) (sym (left matchers))
 
   -- an enforced selector asks what is asked beside the label, and the added matcher
-  pub asked-enforced : bytes_eq name NAME ≡ false → (metric : Option (List ℕ)) (matchers : List Matcher)
+  pub asked-enforced : bytes_eq name METRIC_NAME.now ≡ false → (metric : Option (List ℕ)) (matchers : List Matcher)
       → asked_of [] metric (enforced_matchers name value matchers) ≡ asked_of label metric matchers ++ matcher_of name value ∷ []
   asked-enforced apart None matchers = added matchers
   asked-enforced apart (Some metric) matchers =
       ap (λ ms. name_matcher metric ∷ ms) (added matchers)
       ∙ ap (λ b. cond b (name_matcher metric ∷ filter (is_asked label) matchers) (filter (is_asked label) matchers) ++ matcher_of name value ∷ [])
-      (sym (passed-over (name_matcher metric) ∙ ap not (apart_too name NAME apart)))
+      (sym (passed-over (name_matcher metric) ∙ ap not (apart_too name METRIC_NAME.now apart)))

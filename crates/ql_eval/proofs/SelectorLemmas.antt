@@ -7,10 +7,10 @@ use Rattle.op_base.specs.declared.moment.Moment.{Moment}
 use Rattle.op_base.specs.declared.span.Span.{Span}
 use Rattle.op_base.specs.Labels.{Texts}
 use Rattle.op_base.specs.Matchers.{holds_on, label_value}
+use Rattle.op_base.specs.declared.label_names.TheConstants.{METRIC_NAME}
 use Rattle.srv_store.specs.declared.entry.Entry.{Entry}
-use Rattle.srv_store.specs.Stores.{Store, all_hold, is_within, window, found_entry, latest, newest, ordered, ranged, with_sample}
+use Rattle.srv_store.specs.Stores.{Store, all_hold, is_within, window, found_entry, latest, newest, ordered, ranged, with_point}
 use Rattle.ql_tree.specs.Enforced.{matcher_of, enforced_matchers}
-use Rattle.ql_call.specs.Elements.{NAME}
 use Rattle.ql_call.specs.declared.operand.Operand.TheVariants as operand
 use Rattle.ql_eval.specs.Absent.{absent_labels}
 use Rattle.ql_eval.specs.Selected.{LOOKBACK, asked_of, instant, moment_before, selected, selected_at}
@@ -63,7 +63,7 @@ module _ (name value : List ℕ) where
 
   ranged-of : (store : Store) (asked : List Matcher) (from to : ℤ)
       → ranged store (asked ++ matcher_of name value ∷ []) from to ≡ ranged (labelled store) asked from to
-  ranged-of store asked from to = ap (λ entries. fold with_sample [] (ordered entries)) (window-of store asked from to)
+  ranged-of store asked from to = ap (λ entries. fold with_point [] (ordered entries)) (window-of store asked from to)
 
   -- with a range or without
   selected-at : (store : Store) (asked : List Matcher) (t : ℤ) (range : Option Span) (labels : Texts)
@@ -72,7 +72,7 @@ module _ (name value : List ℕ) where
   selected-at store asked t (Some range) labels = ap (λ series. operand.Ranged series range labels) (ranged-of store asked (t -ℤ range.0) t)
 
   -- an enforced selector gives the same, for any label but the metric's name
-  pub selected-alike : bytes_eq name NAME ≡ false
+  pub selected-alike : bytes_eq name METRIC_NAME.now ≡ false
       → (store : Store) (t : Moment) (metric : Option (List ℕ)) (matchers : List Matcher) (range offset : Option Span)
       → selected [] store t metric (enforced_matchers name value matchers) range offset
       ≡ selected (label name value) (labelled store) t metric matchers range offset

@@ -6,8 +6,8 @@ use Rattle.op_base.specs.declared.matcher.Matcher.{Matcher}
 use Rattle.op_base.specs.declared.matcher.MatchOp.{MatchOp}
 use Rattle.op_base.specs.declared.matcher.MatchOp.TheVariants.{Eq, Ne, Re, Nr}
 use Rattle.op_base.specs.Maps.{Map, value_at, with_entry, without_entry}
-use Rattle.op_base.specs.Labels.{Texts, labels_with}
-use Rattle.ql_call.specs.Elements.{NAME}
+use Rattle.op_base.specs.Labels.{Texts, labels_with, labels_with_all}
+use Rattle.op_base.specs.declared.label_names.TheConstants.{METRIC_NAME}
 
 -- the names on which an equality came, and the labels
 pub record Given : Type 0 where
@@ -44,16 +44,12 @@ without_label given m = record { names = given.names; labels = without_entry giv
 -- what is given after a matcher; one on the metric's name gives nothing
 abbrev pub after_matcher : Given → Matcher → Given
 after_matcher given m =
-    if bytes_eq m.name NAME then given else if gives given m then with_label given m else without_label given m
+    if bytes_eq m.name METRIC_NAME.now then given else if gives given m then with_label given m else without_label given m
 
 -- the labels that the matchers give, one after the other
 abbrev pub given_labels : List Matcher → Given
 given_labels matchers = fold after_matcher nothing_given matchers
 
--- labels with others put over them
-abbrev pub with_labels : Texts → Texts → Texts
-with_labels labels others = fold (λ put label. labels_with put label.0 label.1) labels others
-
 -- the labels of the matchers that are asked, and the ambient ones over them
 abbrev pub absent_labels : Texts → List Matcher → Texts
-absent_labels ambient asked = let given = given_labels asked in with_labels given.labels ambient
+absent_labels ambient asked = let given = given_labels asked in labels_with_all given.labels ambient

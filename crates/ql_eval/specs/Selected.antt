@@ -8,16 +8,17 @@ use Rattle.op_base.specs.declared.moment.Moment.{Moment}
 use Rattle.op_base.specs.declared.span.Span.{Span}
 use Rattle.op_base.specs.Maps.{value_at}
 use Rattle.op_base.specs.Labels.{Texts}
+use Rattle.op_base.specs.declared.label_names.TheConstants.{METRIC_NAME}
 use Rattle.srv_store.specs.declared.entry.Entry.{Entry}
 use Rattle.srv_store.specs.Stores.{Store, newest, ranged}
-use Rattle.ql_call.specs.Elements.{Element, NAME}
+use Rattle.ql_call.specs.Elements.{Element}
 use Rattle.ql_call.specs.declared.operand.Operand.{Operand}
 use Rattle.ql_call.specs.declared.operand.Operand.TheVariants as operand
 use Rattle.ql_eval.specs.Absent.{absent_labels}
 
 -- `__name__="NAME"`
 abbrev pub name_matcher : List ℕ → Matcher
-name_matcher name = record { name = NAME; op = Eq; value = name }
+name_matcher name = record { name = METRIC_NAME.now; op = Eq; value = name }
 
 -- a selector's name counts as the first matcher
 abbrev pub with_name : Option (List ℕ) → List Matcher → List Matcher

@@ -32,11 +32,11 @@ whole store t = record { store = store; ambient = []; at = t }
 
 -- a node whose operands may have failed
 abbrev pub node_of : List Operand → Outcome → Operand
-node_of operands given = operand.Plain (unless_failed operands given)
+node_of operands given = operand.Value (unless_failed operands given)
 
 -- what a node gives, whose children gave these operands
 abbrev pub operand_step : Around → Expr-F Operand → Operand
-operand_step around (Expr-F.Number n) = operand.Plain (Scalar n)
+operand_step around (Expr-F.Number n) = operand.Value (Scalar n)
 operand_step around (Expr-F.Str text) = operand.Text text
 operand_step around (Expr-F.Select name matchers range offset) =
     selected around.ambient around.store around.at name matchers range offset

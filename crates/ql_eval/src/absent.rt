@@ -3,10 +3,8 @@ ghost use Rattle.std.specs.Prelude.{◌≡◌, [], fold, IfOk, OnOk};
 ghost use Rattle.ql_eval.specs.Absent as spec;
 ghost use Rattle.ql_eval.specs.Holding.{given_as};
 
-use op_base::{Labels, MatchOp, Matcher, NoMemory, Table};
+use op_base::{Labels, METRIC_NAME, MatchOp, Matcher, NoMemory, Table};
 use std::alloc::Global;
-
-pub(crate) const NAME: &str = "__name__";
 
 // The names on which an equality came, and the labels.
 #[derive(Drop)]
@@ -34,7 +32,7 @@ fn take(given: &mut Given, matcher: &Matcher) -> Result<(), NoMemory>
     ensures { OnOk result (given_as given.new ≡ spec.after_matcher (given_as given.old) matcher.now) }
 {
     let name = matcher.name.as_str();
-    if name.as_bytes() == NAME.as_bytes() {
+    if name.as_bytes() == METRIC_NAME.as_bytes() {
         return Ok(());
     }
     if gives(given, matcher) {

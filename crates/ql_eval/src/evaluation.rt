@@ -33,7 +33,7 @@ fn operand(alloc: Global, expr: &Expr, store: &Store, t: &Moment) -> Result<Oper
     ensures { IfOk result (λ operand. operand ≡ spec.operand_of (spec.whole store.now t.now) expr.now) }
 {
     match expr {
-        Expr::Number(number) => Ok(Operand::Plain(Outcome::Scalar(*number))),
+        Expr::Number(number) => Ok(Operand::Value(Outcome::Scalar(*number))),
         Expr::Str(text) => Ok(Operand::Text(Text::from_str(alloc, text.as_str())?)),
         Expr::Select {
             name,
@@ -102,8 +102,8 @@ fn sign_node(alloc: Global, minus: bool, of: &[Operand]) -> Result<Operand, NoMe
         ≡ spec.node_of of.now (operators.signed minus (number_at 0 of.now) (elements_at 0 of.now))) }
 {
     match failure_in(of)? {
-        Some(failure) => Ok(Operand::Plain(failure)),
-        None => Ok(Operand::Plain(signed(alloc, minus, of)?)),
+        Some(failure) => Ok(Operand::Value(failure)),
+        None => Ok(Operand::Value(signed(alloc, minus, of)?)),
     }
 }
 
@@ -120,8 +120,8 @@ fn binary_node(
         (elements_at 0 left.now) (elements_at 0 right.now))) }
 {
     match failure_in_both(left, right)? {
-        Some(failure) => Ok(Operand::Plain(failure)),
-        None => Ok(Operand::Plain(binary(alloc, op, boolean, matching, left, right)?)),
+        Some(failure) => Ok(Operand::Value(failure)),
+        None => Ok(Operand::Value(binary(alloc, op, boolean, matching, left, right)?)),
     }
 }
 
@@ -135,8 +135,8 @@ fn call_node(
         ≡ spec.node_of args.now (calls.call_of function.now t.now args.now)) }
 {
     match failure_in(args)? {
-        Some(failure) => Ok(Operand::Plain(failure)),
-        None => Ok(Operand::Plain(call(alloc, function, t, args)?)),
+        Some(failure) => Ok(Operand::Value(failure)),
+        None => Ok(Operand::Value(call(alloc, function, t, args)?)),
     }
 }
 
@@ -151,8 +151,8 @@ fn aggregate_node(
         (aggregates.aggregate op grouping.now (text_at 0 param.now) (scalar_at 0 param.now) (elements_at 0 of.now))) }
 {
     match failure_in_both(param, of)? {
-        Some(failure) => Ok(Operand::Plain(failure)),
-        None => Ok(Operand::Plain(aggregate(
+        Some(failure) => Ok(Operand::Value(failure)),
+        None => Ok(Operand::Value(aggregate(
             alloc,
             op,
             grouping,

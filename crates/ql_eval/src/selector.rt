@@ -3,8 +3,8 @@ ghost use Rattle.std.specs.Prelude.{◌≡◌, [], ◌++◌, ◌-ℤ◌, map, If
 ghost use Rattle.std.specs.List.{flat_map};
 ghost use Rattle.ql_eval.specs.Selected as spec;
 
-use crate::absent::{NAME, absent_labels};
-use op_base::{Labels, List, MatchOp, Matcher, Moment, NoMemory, Span, Text};
+use crate::absent::absent_labels;
+use op_base::{Labels, List, METRIC_NAME, MatchOp, Matcher, Moment, NoMemory, Span, Text};
 use ql_call::Operand;
 use srv_store::{Entry, Store};
 use std::alloc::Global;
@@ -59,7 +59,7 @@ fn name_matcher(alloc: Global, name: &str) -> Result<Matcher, NoMemory>
     ensures { IfOk result (λ matcher. matcher ≡ spec.name_matcher name.now) }
 {
     Ok(Matcher {
-        name: Text::from_str(alloc, NAME)?,
+        name: Text::from_str(alloc, METRIC_NAME)?,
         op: MatchOp::Eq,
         value: Text::from_str(alloc, name)?,
     })
