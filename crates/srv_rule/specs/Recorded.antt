@@ -1,23 +1,19 @@
 -- What a recording rule makes of what its expression comes to.
-use Rattle.std.specs.Prelude.{ℕ, List, [], ◌∷◌, Option, Some, None, fold, if◌then◌else◌}
+use Rattle.std.specs.Prelude.{ℕ, List, [], ◌∷◌, Option, Some, None, if◌then◌else◌}
 use Rattle.std.specs.Option.{option_and_then}
 use Rattle.op_base.specs.Maps.{without_entry}
-use Rattle.op_base.specs.Labels.{Texts, labels_with}
+use Rattle.op_base.specs.Labels.{Texts, labels_with, labels_with_all}
+use Rattle.op_base.specs.declared.label_names.TheConstants.{METRIC_NAME}
 use Rattle.srv_store.specs.LabelMaps.{has_labels, with_value}
 use Rattle.srv_store.specs.Stores.{Vector}
-use Rattle.ql_call.specs.Elements.{NAME}
 use Rattle.ql_call.specs.declared.outcome.Outcome.{Outcome}
 use Rattle.ql_call.specs.declared.outcome.Outcome.TheVariants as outcome
-
--- labels with others put over them; an empty value removes a label
-abbrev pub with_labels : Texts → Texts → Texts
-with_labels labels others = fold (λ put label. labels_with put label.0 label.1) labels others
 
 -- the labels of a result: without `__name__`, then with the recorded name, then with the rule's labels,
 -- and what is forced over all
 abbrev pub recorded_labels : List ℕ → Texts → Texts → Texts → Texts
 recorded_labels name labels force element =
-    with_labels (with_labels (labels_with (without_entry element NAME) NAME name) labels) force
+    labels_with_all (labels_with_all (labels_with (without_entry element METRIC_NAME.now) METRIC_NAME.now name) labels) force
 
 -- the results by their label sets, or none where two have equal ones
 abbrev pub gathered : List ℕ → Texts → Texts → Vector → Vector → Option Vector

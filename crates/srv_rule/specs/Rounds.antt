@@ -1,5 +1,5 @@
 -- A round: the rules of all files, one after the other, at one moment.
-use Rattle.std.specs.Prelude.{ℕ, ◌+◌, List, [], ◌∷◌, ◌++◌, not, Option, Some, None, filter, fold, map, unwrap_or, is_some, option_to_list}
+use Rattle.std.specs.Prelude.{ℕ, ℤ, ◌+◌, List, [], ◌∷◌, ◌++◌, not, Option, Some, None, filter, fold, map, unwrap_or, is_some, option_to_list}
 use Rattle.std.specs.FinMap as finite
 use Rattle.std.specs.List.{flat_map}
 use Rattle.std.specs.Cmp.Lexicographic.{slice_cmp}
@@ -12,7 +12,7 @@ use Rattle.cfg_types.specs.declared.config.Group.{Group}
 use Rattle.cfg_types.specs.declared.config.Rule.{Rule}
 use Rattle.cfg_types.specs.Written.{file_text}
 use Rattle.srv_store.specs.declared.entry.Entry.{Entry}
-use Rattle.srv_store.specs.LabelMaps.{has_labels, labels_in}
+use Rattle.srv_store.specs.LabelMaps.{labels_in, stale_entries}
 use Rattle.srv_store.specs.Stores.{Store, Vector, with_all}
 use Rattle.srv_rule.specs.declared.states.RuleId.{RuleId}
 use Rattle.srv_rule.specs.declared.view.FailedRule.{FailedRule}
@@ -33,10 +33,6 @@ States = List (RuleId × List Texts)
 -- the label sets that a rule gave at its last success
 abbrev pub last_of : States → RuleId → Option (List Texts)
 last_of states id = finite.find id_cmp id states
-
--- the label sets of a rule's last results are kept by the rule
-abbrev pub with_state : States → RuleId → List Texts → States
-with_state states id last = finite.put id_cmp id last states
 
 -- one rule of a file, with its object, its group and its place there
 pub record Placed : Type 0 where
@@ -81,11 +77,6 @@ placed_in file = flat_map (λ (group : Group). placed_from file group.name 0 gro
 abbrev pub placed_of : List RuleFile → List Placed
 placed_of files = flat_map placed_in files
 
--- a stale entry for each of the label sets that isn't given now
-abbrev pub stale_entries : Moment → List Texts → Vector → List Entry
-stale_entries t last now =
-    map (λ labels. record { labels = labels; at = t; value = None }) (filter (λ labels. not (has_labels now labels)) last)
-
 -- the entries of results
 abbrev pub value_entries : Moment → Vector → List Entry
 value_entries t results = map (λ result. record { labels = result.0; at = t; value = Some result.1 }) results
@@ -108,7 +99,7 @@ stored ran = ran.store
 abbrev pub after_failure : Ran → Placed → Option (List Texts) → Ran
 after_failure ran placed last = record {
   store = ran.store;
-  states = fold (λ states labels. with_state states (id_of placed) labels) ran.states (option_to_list last);
+  states = fold (λ states labels. finite.put id_cmp (id_of placed) labels states) ran.states (option_to_list last);
   failed = ran.failed ++ (record { namespace = placed.namespace; name = placed.object; group = placed.group; index = placed.place }) ∷ [];
 }
 
@@ -116,7 +107,7 @@ after_failure ran placed last = record {
 abbrev pub after_success : Moment → Ran → Placed → List Texts → Vector → Ran
 after_success t ran placed last results = record {
   store = with_all ran.store (value_entries t results ++ stale_entries t last results);
-  states = with_state ran.states (id_of placed) (labels_in results);
+  states = finite.put id_cmp (id_of placed) (labels_in results) ran.states;
   failed = ran.failed;
 }
 
@@ -148,7 +139,7 @@ gone before states = filter (λ state. not (is_some (last_of states state.0))) b
 
 -- stale entries for the last label sets of rules that are no longer there
 abbrev pub gone_entries : Moment → States → List Entry
-gone_entries t states = flat_map (λ state. stale_entries t state.1 []) states
+gone_entries t states = flat_map (λ state. stale_entries {X = ℤ} t state.1 []) states
 
 -- the store with staleness markers for what rules gave before that are gone
 abbrev pub without_gone : Moment → States → Ran → Ran

@@ -1,18 +1,15 @@
 // What a recording rule gives at a moment.
-ghost use Rattle.std.specs.Prelude.{◌≡◌, [], ◌∷◌, not, Ok, true, fold, IfOk, OnOk};
-ghost use Rattle.op_base.specs.Labels.{labels_with};
+ghost use Rattle.std.specs.Prelude.{◌≡◌, [], ◌∷◌, not, Ok, true, IfOk, OnOk};
 ghost use Rattle.srv_store.specs.LabelMaps.{has_labels, with_value};
 ghost use Rattle.ql_eval.specs.Values.{value_of, whole};
 ghost use Rattle.srv_rule.specs.Recorded as spec;
 
 use cfg_types::Rule;
-use op_base::{Labels, List, Moment, NoMemory, Tags};
+use op_base::{Labels, List, METRIC_NAME, Moment, NoMemory};
 use ql_call::Outcome;
 use ql_eval::eval;
 use srv_store::{LabelMap, Store};
 use std::alloc::Global;
-
-const NAME: &str = "__name__";
 
 // The results of a rule, or none where it fails: its expression does, or two results have equal label
 // sets.
@@ -82,17 +79,8 @@ fn recorded_labels(rule: &Rule, element: &Labels) -> Result<Labels, NoMemory>
     ensures { IfOk result (λ labels. labels ≡ spec.recorded_labels rule.now.name rule.now.labels [] element.now) }
 {
     let mut labels = element.copy()?;
-    labels.remove(NAME);
-    labels.set(NAME, rule.name.as_str())?;
-    set_all(&mut labels, &rule.labels)?;
+    labels.remove(METRIC_NAME);
+    labels.set(METRIC_NAME, rule.name.as_str())?;
+    labels.set_all(&rule.labels)?;
     Ok(labels)
-}
-
-fn set_all(labels: &mut Labels, others: &Tags) -> Result<(), NoMemory>
-    ensures { OnOk result (labels.new ≡ spec.with_labels labels.old others.now) }
-{
-    for index in 0..others.len() {
-        labels.set(others.name_at(index), others.value_at(index))?;
-    }
-    Ok(())
 }

@@ -1,15 +1,15 @@
 ghost use Rattle.std.specs.Prelude.{◌≡◌, [], ◌∷◌, map, unwrap_or, IfOk, OnOk, OnErr};
-ghost use Rattle.srv_store.specs.LabelMaps.{labels_in};
+ghost use Rattle.srv_store.specs.LabelMaps.{labels_in, stale_entries};
 ghost use Rattle.srv_store.specs.Stores.{AddsPrefix};
 ghost use Rattle.srv_rule.specs.Running.{placed_as, ran, after, succeeded};
 ghost use Rattle.srv_rule.specs.Rounds as spec;
 
 use crate::results::results_of;
-use crate::states::{RuleId, RuleStates, push_stale};
+use crate::states::{RuleId, RuleStates};
 use crate::view::{FailedRule, RoundView};
 use cfg_types::{Group, Rule, RuleFile, file_text};
 use op_base::{Labels, List, Moment, NoMemory};
-use srv_store::{Entry, LabelMap, Store};
+use srv_store::{Entry, LabelMap, Store, push_stale};
 use std::alloc::Global;
 
 // What a round has done so far, beside the store.
@@ -235,11 +235,11 @@ fn stale_of(
     t: Moment,
 ) -> Result<List<Entry>, NoMemory>
     ensures { IfOk result (λ entries. entries
-        ≡ spec.stale_entries t (unwrap_or (spec.last_of before.now id.now) []) results.now) }
+        ≡ stale_entries t (unwrap_or (spec.last_of before.now id.now) []) results.now) }
 {
     let mut entries = List::new(alloc);
     match before.last_of(id) {
-        Some(last) => push_stale(&mut entries, last.as_slice(), results, t)?,
+        Some(last) => push_stale(&mut entries, t, last.as_slice(), results)?,
         None => (),
     }
     Ok(entries)

@@ -1,11 +1,11 @@
 ghost use Rattle.std.specs.Prelude.{◌≡◌, [], ◌∷◌, ◌++◌, OnOk, OnErr, IfOk};
+ghost use Rattle.std.specs.FinMap as finite;
 ghost use Rattle.std.specs.Option.{option_copied};
 ghost use Rattle.srv_rule.specs.Rounds as spec;
 
-use op_base::{Labels, List, Moment, NoMemory, Text};
-use srv_store::{Entry, LabelMap};
+use op_base::{Labels, List, Moment, NoMemory, OrderedMap, Text};
+use srv_store::{Entry, LabelMap, push_stale};
 use std::alloc::Global;
-use std::collections::BTreeMap;
 use std::marker::Model;
 
 /// What a rule is known by, whatever its expression: the text `NAMESPACE/NAME` of its object and that
@@ -23,7 +23,7 @@ pub struct RuleId {
 /// Contracts see the list of both in the order of the rules.
 #[derive(Debug, Drop)]
 pub struct RuleStates {
-    states: BTreeMap<RuleId, List<Labels>>,
+    states: OrderedMap<RuleId, List<Labels>>,
 }
 
 impl Model for RuleStates {
@@ -31,7 +31,7 @@ impl Model for RuleStates {
 
     ghost Value = { States };
 
-    ghost view = { λ all. all.states.entries };
+    ghost view = { λ all. all.states };
 }
 
 impl RuleStates {
@@ -40,7 +40,7 @@ impl RuleStates {
         ensures { result ≡ [] }
     {
         RuleStates {
-            states: BTreeMap::new(alloc),
+            states: OrderedMap::new(alloc),
         }
     }
 
@@ -52,11 +52,10 @@ impl RuleStates {
     }
 
     pub(crate) fn insert(&mut self, id: RuleId, last: List<Labels>) -> Result<(), NoMemory>
-        ensures ok { OnOk result (self.new ≡ spec.with_state self.old id last) }
+        ensures ok { OnOk result (self.new ≡ finite.put spec.id_cmp id last self.old) }
         ensures err { OnErr result (self.new ≡ self.old) }
     {
-        self.states.insert(id, last)?;
-        Ok(())
+        self.states.insert(id, last)
     }
 
     // Stale entries for the label sets of the rules that have no state among the next ones.
@@ -90,39 +89,6 @@ fn push_gone(
 {
     match next.last_of(id) {
         Some(_) => Ok(()),
-        None => push_stale(entries, last.as_slice(), none, t),
-    }
-}
-
-// Pushes a stale entry for each of the label sets that isn't given now.
-pub(crate) fn push_stale(
-    entries: &mut List<Entry>,
-    last: &[Labels],
-    now: &LabelMap<i64>,
-    t: Moment,
-) -> Result<(), NoMemory>
-    ensures { OnOk result (entries.new ≡ entries.old ++ spec.stale_entries t last.now now.now) }
-{
-    for labels in last {
-        push_stale_one(entries, labels, now, t)?;
-    }
-    Ok(())
-}
-
-fn push_stale_one(
-    entries: &mut List<Entry>,
-    labels: &Labels,
-    now: &LabelMap<i64>,
-    t: Moment,
-) -> Result<(), NoMemory>
-    ensures { OnOk result (entries.new ≡ entries.old ++ spec.stale_entries t (labels.now ∷ []) now.now) }
-{
-    match now.get(labels) {
-        Some(_) => Ok(()),
-        None => entries.push(Entry {
-            labels: labels.copy()?,
-            at: t,
-            value: None,
-        }),
+        None => push_stale(entries, t, last.as_slice(), none),
     }
 }

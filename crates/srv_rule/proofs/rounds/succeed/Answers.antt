@@ -1,7 +1,8 @@
 -- What is added are the values, then the stale entries.
 use Rattle.std.proofs.Common.{[], ◌++◌, unwrap_or, OnErr, subst, ap, ◌∙◌}
 use Rattle.srv_store.specs.Stores.{AddsPrefix, with_all}
-use Rattle.srv_rule.specs.Rounds.{value_entries, stale_entries, last_of}
+use Rattle.srv_store.specs.LabelMaps.{stale_entries}
+use Rattle.srv_rule.specs.Rounds.{value_entries, last_of}
 use Rattle.srv_rule.proofs.rounds.succeed.Goals as goal
 
 pub returns-clause-err : goal.returns-clause-err
