@@ -5,13 +5,14 @@ use Rattle.std.specs.List.{AllByRecursion}
 use Rattle.op_base.specs.declared.moment.Moment.{Moment}
 use Rattle.op_base.specs.Maps.{Map, keys_of, with_entry}
 use Rattle.op_base.specs.Names.{is_namespace}
+use Rattle.op_base.specs.Moments.{IsTick}
 use Rattle.cfg_types.specs.declared.config.Config.{Config}
 use Rattle.op_report.specs.declared.view.Report.{Report}
 use Rattle.op_report.specs.declared.view.View.TheVariants.{Page as PageView}
 use Rattle.srv_scrape.specs.declared.pages.Sample.{Sample}
 use Rattle.srv_scrape.specs.Pages.{Pages}
 use Rattle.srv_scrape.specs.Ticks.{HavePatterns, scraped_entries}
-use Rattle.srv_store.specs.Stores.{IsTick, AddsPrefix}
+use Rattle.srv_store.specs.Stores.{AddsPrefix}
 use Rattle.srv_run.specs.declared.event.Event.{Event}
 use Rattle.srv_run.specs.declared.event.Event.TheVariants.{Known, Page, Tick}
 use Rattle.srv_run.specs.Memories.{Memory, Ticked, nothing_left, ticked}

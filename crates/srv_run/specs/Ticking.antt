@@ -3,6 +3,7 @@ use Rattle.std.specs.Prelude.{ℕ, List, [], Bool, Some, drop, length, bytes_eq}
 use Rattle.std.specs.List.{list_any}
 use Rattle.op_base.specs.declared.moment.Moment.{Moment}
 use Rattle.op_base.specs.Labels.{Texts}
+use Rattle.op_base.specs.Maps.{Map, members_at, text_cmp}
 use Rattle.cfg_types.specs.declared.config.Config.{Config}
 use Rattle.srv_scrape.specs.Pages.{Pages}
 use Rattle.srv_scrape.specs.Ticks.{scraped_entries}
@@ -13,7 +14,6 @@ use Rattle.srv_rule.specs.Rounds.{States}
 use Rattle.op_report.specs.declared.view.Report.{Report}
 use Rattle.srv_run.specs.Memories.{Memory, Ticked, ticked, nothing_left}
 use Rattle.srv_run.specs.Shares.{tick_view}
-use Rattle.srv_run.specs.Sharing.{Shares, share_at}
 
 -- what ticks left, part by part
 abbrev pub left : Store → List Texts → States → Memory
@@ -37,10 +37,10 @@ abbrev pub told : List FailedRule → List Entry → Ticked
 told failed added = record { memory = nothing_left; failed = failed; added = added }
 
 -- the line of a name from what was shared out
-abbrev pub shared_line : Shares FailedRule → Shares Entry → Moment → List ℕ → Report
+abbrev pub shared_line : Map (List FailedRule) → Map (List Entry) → Moment → List ℕ → Report
 shared_line rules entries t name = record {
   to = Some name;
-  view = tick_view (share_at rules name) (share_at entries name) t;
+  view = tick_view (members_at text_cmp rules name) (members_at text_cmp entries name) t;
 }
 
 -- the name is one of these

@@ -58,7 +58,7 @@ fn shared_reports(
     for name in names {
         reports.push(Report {
             to: Some(name.clone()?),
-            view: tick_view(alloc, rules.of(name), entries.of(name), t)?,
+            view: tick_view(alloc, rules.members(name), entries.members(name), t)?,
         })?;
     }
     Ok(reports)

@@ -1,14 +1,14 @@
 ghost use Rattle.std.specs.Prelude.{◌≡◌, [], ◌∷◌, true, Some, None, IfOk, IfErr, OnOk, OnErr};
 ghost use Rattle.op_report.specs.ReadBack.{AreNamed};
 ghost use Rattle.op_base.specs.Names.{is_namespace};
-ghost use Rattle.srv_store.specs.Stores.{IsTick};
+ghost use Rattle.op_base.specs.Moments.{IsTick};
 ghost use Rattle.srv_run.specs.Served as spec;
 
 use crate::event::{Event, EventFault};
 use crate::reports::tick_reports;
-use crate::tick::{entries_from, run_tick};
+use crate::tick::run_tick;
 use cfg_types::{Config, PromPart};
-use op_base::{Labels, List, Moment, NoMemory, Span, Table, Tags, Text};
+use op_base::{Labels, List, Moment, NoMemory, Span, Table, Tags, Text, behind};
 use op_report::{Report, View};
 use srv_rule::RuleStates;
 use srv_scrape::{Pages, Sample};
@@ -35,7 +35,7 @@ impl Model for Server {
     ghost use Rattle.std.specs.Coded.{codes};
     ghost use Rattle.std.specs.Prelude.{IfSome};
     ghost use Rattle.ql_tree.specs.contracts.tree.Expr as expr;
-    ghost use Rattle.srv_store.specs.Stores.{IsTick};
+    ghost use Rattle.op_base.specs.Moments.{IsTick};
     ghost use Rattle.srv_run.specs.Served.{Serving, CanRun, AreKnown};
 
     ghost Value = { Serving };
@@ -176,7 +176,7 @@ impl Server {
             &self.states,
             t,
         )?;
-        let added = entries_from(self.store.entries(), before);
+        let added = behind(self.store.entries(), before);
         let reports = tick_reports(self.alloc, &self.known, failed.as_slice(), added, t)?;
         self.scraped = scraped;
         self.states = states;

@@ -1,4 +1,4 @@
-ghost use Rattle.std.specs.Prelude.{◌≡◌, drop, IfOk, OnOk, OnErr};
+ghost use Rattle.std.specs.Prelude.{◌≡◌, IfOk, OnOk, OnErr};
 ghost use Rattle.srv_store.specs.Stores.{AddsPrefix, with_all};
 ghost use Rattle.srv_scrape.specs.Ticks as scrapes;
 ghost use Rattle.srv_run.specs.Served.{CanRun};
@@ -8,7 +8,7 @@ use cfg_types::{Config, Job};
 use op_base::{Labels, List, Moment, NoMemory};
 use srv_rule::{FailedRule, RuleStates, next_round};
 use srv_scrape::{Pages, scrape_all, tick_entries};
-use srv_store::{Entry, Store};
+use srv_store::Store;
 use std::alloc::Global;
 
 /// Scrapes everything at the moment and then runs all rules. Answers the label sets that the scrapes
@@ -54,15 +54,4 @@ fn store_scrapes(
     let (entries, given) = tick_entries(alloc, t, before, scraped)?;
     store.add_all(entries)?;
     Ok(given)
-}
-
-/// The entries from the place on.
-pub fn entries_from(entries: &[Entry], place: usize) -> &[Entry]
-    ensures { result.now ≡ drop place entries.now }
-{
-    if place < entries.len() {
-        &entries[place..]
-    } else {
-        &[]
-    }
 }

@@ -13,15 +13,15 @@ use Rattle.srv_run.proofs.server.Server.run.Goals as goal
 
 pub returns-clause-named : goal.returns-clause-named
 returns-clause-named c = subst AreNamed (sym c.in_ok-reports.ensures)
-    (lines-named (keys_of c.self.inside.known) (keys_of c.self.inside.known) (told c.as_slice.result.now c.entries_from-added.result.now) c.args.t c.self.invariant.1)
+    (lines-named (keys_of c.self.inside.known) (keys_of c.self.inside.known) (told c.as_slice.result.now c.behind-added.result.now) c.args.t c.self.invariant.1)
 
 pub returns-clause-reports : goal.returns-clause-reports
 returns-clause-reports c =
     subst (λ (s : Serving). c.in_ok-reports.reports ≡ tick_reports (keys_of s.served.known) (tick_of s.config s.served c.args.t) c.args.t) c.self.view_is
     (c.in_ok-reports.ensures
-    ∙ ap (λ failed. tick_reports (keys_of c.self.inside.known) (told failed c.entries_from-added.result.now) c.args.t) c.as_slice.ensures
+    ∙ ap (λ failed. tick_reports (keys_of c.self.inside.known) (told failed c.behind-added.result.now) c.args.t) c.as_slice.ensures
     ∙ ap (λ added. tick_reports (keys_of c.self.inside.known) (told c.in_ok-scraped.failed added) c.args.t)
-    (c.entries_from-added.ensures ∙ ap (λ n. drop n c.entries.result.now) c.len-before.ensures ∙ ap (drop (length c.self.inside.store)) c.entries.ensures)
+    (c.behind-added.ensures ∙ ap (λ n. drop n c.entries.result.now) c.len-before.ensures ∙ ap (drop (length c.self.inside.store)) c.entries.ensures)
     ∙ ap (λ (k : Ticked). tick_reports (keys_of c.self.inside.known) k c.args.t) c.in_ok-scraped.ensures.ok)
 
 pub returns-in_err-reports-clause-cut_off : goal.returns-in_err-reports-clause-cut_off
