@@ -9,9 +9,9 @@ use Rattle.op_base.specs.declared.moment.Moment.{Moment}
 use Rattle.op_base.specs.Maps.{without_entry}
 use Rattle.op_base.specs.Labels.{Texts, labels_with, labels_cmp}
 use Rattle.op_base.specs.Matchers.{label_value}
+use Rattle.op_base.specs.declared.label_names.TheConstants.{METRIC_NAME, NAMESPACE_LABEL}
 use Rattle.srv_store.specs.LabelMaps.{has_labels, with_value}
-use Rattle.srv_store.specs.Stores.{Store, Vector, HOME, owns, of_namespace}
-use Rattle.ql_call.specs.Elements.{NAME}
+use Rattle.srv_store.specs.Stores.{Store, Vector, owns, of_namespace}
 use Rattle.ql_call.specs.declared.outcome.Outcome.{Outcome}
 use Rattle.ql_call.specs.declared.outcome.Outcome.TheVariants as outcome
 use Rattle.ql_eval.specs.Values.{value_of}
@@ -28,13 +28,13 @@ same_name n = (bytes_decides n n).1 refl
 
 -- another owner's labels aren't the namespace's
 pub others_labels : (n m : List ℕ) (l : Texts) → pointwise nat_eq n m ≡ false → owns m l ≡ true → owns n l ≡ false
-others_labels n m l other own = ap (pointwise nat_eq n) (sym ((bytes_decides m (label_value l HOME)).0 own)) ∙ other
+others_labels n m l other own = ap (pointwise nat_eq n) (sym ((bytes_decides m (label_value l NAMESPACE_LABEL.now)).0 own)) ∙ other
 
 -- labels with the namespace put over them are its own
-pub owned : (n : List ℕ) (l : Texts) → 0 < length n → owns n (labels_with l HOME n) ≡ true
+pub owned : (n : List ℕ) (l : Texts) → 0 < length n → owns n (labels_with l NAMESPACE_LABEL.now n) ≡ true
 owned [] l some = absurd (omega (arith, some))
 owned (b ∷ n) l some =
-    ap (λ o. pointwise nat_eq (b ∷ n) (unwrap_or o [])) (find-put (slice_cmp nat_cmp) nat_list_cmp_total HOME HOME (b ∷ n) l) ∙ same_name (b ∷ n)
+    ap (λ o. pointwise nat_eq (b ∷ n) (unwrap_or o [])) (find-put (slice_cmp nat_cmp) nat_list_cmp_total NAMESPACE_LABEL.now NAMESPACE_LABEL.now (b ∷ n) l) ∙ same_name (b ∷ n)
 
 -- what the enforced expression comes to is what the written one does over the namespace's entries
 pub value-of-rule : (r : Recording) (store : Store) (t : Moment)
@@ -67,7 +67,7 @@ gathered-own n name results (e ∷ es) some h =
     let l = recorded_labels name ((ENFORCED_LABEL, n) ∷ []) [] e.0 in
     elim (has_labels results l) as (λ b. IfSome (cond b None (gathered name ((ENFORCED_LABEL, n) ∷ []) [] (with_value results l e.1) es)) (Own n)) [
       | true ↦ tt
-      | false ↦ gathered-own n name (with_value results l e.1) es some (own-put n l e.1 results (owned n (labels_with (without_entry e.0 NAME) NAME name) some) h)
+      | false ↦ gathered-own n name (with_value results l e.1) es some (own-put n l e.1 results (owned n (labels_with (without_entry e.0 METRIC_NAME.now) METRIC_NAME.now name) some) h)
     ]
 
 -- the same of what an expression comes to

@@ -12,11 +12,11 @@ use Rattle.std.specs.FinMap.Entries.{by_order, put, where_key, is_sorted}
 use Rattle.op_base.specs.declared.moment.Moment.{Moment}
 use Rattle.op_base.specs.Labels.{Texts}
 use Rattle.srv_store.specs.declared.entry.Entry.{Entry}
-use Rattle.srv_store.specs.LabelMaps.{has_labels, labels_in}
+use Rattle.srv_store.specs.LabelMaps.{has_labels, labels_in, stale_entries}
 use Rattle.srv_store.specs.Stores.{Vector, with_all, owns, of_namespace}
 use Rattle.srv_rule.specs.declared.states.RuleId.{RuleId}
 use Rattle.srv_rule.specs.declared.view.FailedRule.{FailedRule}
-use Rattle.srv_rule.specs.Rounds.{States, Ran, Placed, id_cmp, id_of, placed_at, last_of, with_state, stale_entries, value_entries, after_results}
+use Rattle.srv_rule.specs.Rounds.{States, Ran, Placed, id_cmp, id_of, placed_at, last_of, value_entries, after_results}
 use Rattle.srv_run.specs.Shares.{failed_of}
 use Rattle.op_thin.specs.declared.recording.Recording.{Recording}
 use Rattle.op_thin.specs.Compiled.{config_rule, file_of}
@@ -90,7 +90,7 @@ own-find (s ∷ states) id h =
       | Greater ↦ λ _. own-find states id h.1
     ] refl
 
-pub own-state : (states : States) (id : RuleId) (sets : List Texts) → OwnSets id.namespace sets → OwnStates states → OwnStates (with_state states id sets)
+pub own-state : (states : States) (id : RuleId) (sets : List Texts) → OwnSets id.namespace sets → OwnStates states → OwnStates (put id_cmp id sets states)
 own-state [] id sets own h = (own, tt)
 own-state (s ∷ states) id sets own h =
     elim (id_cmp id s.0) as (λ o. id_cmp id s.0 ≡ o → OwnStates (by_order o ((id, sets) ∷ s ∷ states) ((s.0, sets) ∷ states) (s ∷ put id_cmp id sets states))) [
@@ -139,7 +139,7 @@ last_own m None h = tt
 last_own m (Some sets) h = h
 
 abbrev pub kept_states : RuleId → States → Option (List Texts) → States
-kept_states id states last = fold (λ kept sets. with_state kept id sets) states (option_to_list last)
+kept_states id states last = fold (λ kept sets. put id_cmp id sets kept) states (option_to_list last)
 
 abbrev failed_rule : Placed → FailedRule
 failed_rule placed = record { namespace = placed.namespace; name = placed.object; group = placed.group; index = placed.place }

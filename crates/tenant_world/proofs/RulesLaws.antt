@@ -1,17 +1,17 @@
 -- All rules of a round, one after the other, and the rules that are gone.
-use Rattle.std.proofs.Common.{◌≡◌, ℕ, ◌<◌, Bool, true, false, not, cond, T, List, [], ◌∷◌, ◌++◌, map, filter, fold, length, is_some, unwrap_or, Option, None, Some, IfSome, nat_eq, refl, sym, ap, subst, ◌∙◌, append-nil, append_assoc}
+use Rattle.std.proofs.Common.{◌≡◌, ℕ, ℤ, ◌<◌, Bool, true, false, not, cond, T, List, [], ◌∷◌, ◌++◌, map, filter, fold, length, is_some, unwrap_or, Option, None, Some, IfSome, nat_eq, refl, sym, ap, subst, ◌∙◌, append-nil, append_assoc}
 use Rattle.std.specs.List.{AllByRecursion}
 use Rattle.std.specs.Cmp.Lexicographic.{pointwise, bytes_decides}
 use Rattle.std.specs.FinMap.Entries.{find, is_sorted, is_sorted-put, find-where_key}
 use Rattle.op_base.specs.declared.moment.Moment.{Moment}
 use Rattle.op_base.specs.Labels.{Texts}
 use Rattle.cfg_types.specs.declared.config.RuleFile.{RuleFile}
-use Rattle.srv_store.specs.LabelMaps.{labels_in}
+use Rattle.srv_store.specs.LabelMaps.{labels_in, stale_entries}
 use Rattle.srv_store.specs.Stores.{Store, Vector, with_all, fresh, of_namespace}
 use Rattle.srv_rule.specs.declared.states.RuleId.{RuleId}
 use Rattle.ql_eval.specs.Values.{value_of}
 use Rattle.srv_rule.specs.Recorded.{results_of}
-use Rattle.srv_rule.specs.Rounds.{States, Ran, around, Placed, id_cmp, id_of, last_of, placed_in, placed_of, stale_entries, value_entries, after_results, after_rule, after_rules, gone, gone_entries, without_gone, round_of}
+use Rattle.srv_rule.specs.Rounds.{States, Ran, around, Placed, id_cmp, id_of, last_of, placed_in, placed_of, value_entries, after_results, after_rule, after_rules, gone, gone_entries, without_gone, round_of}
 use Rattle.op_thin.specs.declared.recording.Recording.{Recording}
 use Rattle.op_thin.specs.Compiled.{enforced_expr, file_of, ENFORCED_LABEL}
 use Rattle.tenant_world.specs.Tenants.{home_label, written_rule, written_file}
@@ -139,9 +139,9 @@ gone-of n t (s ∷ before) after h =
     ≡ gone_entries t (gone (cond b (s ∷ states_of n before) (states_of n before)) (states_of n after))) [
       | true ↦ λ own.
           let sets = subst (λ m. OwnSets m s.1) (sym ((bytes_decides n s.0.namespace).0 own)) h.0 in
-          let seen = of-append n (stale_entries t s.1 []) (gone_entries t (gone before after))
+          let seen = of-append n (stale_entries {X = ℤ} t s.1 []) (gone_entries t (gone before after))
           ∙ ap (λ l. l ++ of_namespace n (gone_entries t (gone before after))) (stale-seen n t s.1 [] sets)
-          ∙ ap (λ l. stale_entries t s.1 [] ++ l) rest in
+          ∙ ap (λ l. stale_entries {X = ℤ} t s.1 [] ++ l) rest in
           elim (not (is_some (last_of after s.0))) as (λ k. of_namespace n (gone_entries t (cond k (s ∷ gone before after) (gone before after)))
           ≡ gone_entries t (cond k (s ∷ gone (states_of n before) (states_of n after)) (gone (states_of n before) (states_of n after)))) [
             | true ↦ seen
@@ -150,7 +150,7 @@ gone-of n t (s ∷ before) after h =
       | false ↦ λ other.
           elim (not (is_some (last_of after s.0))) as (λ k. of_namespace n (gone_entries t (cond k (s ∷ gone before after) (gone before after)))
           ≡ gone_entries t (gone (states_of n before) (states_of n after))) [
-            | true ↦ of-append n (stale_entries t s.1 []) (gone_entries t (gone before after))
+            | true ↦ of-append n (stale_entries {X = ℤ} t s.1 []) (gone_entries t (gone before after))
                 ∙ ap (λ l. l ++ of_namespace n (gone_entries t (gone before after))) (stale-unseen n s.0.namespace t s.1 [] other h.0) ∙ rest
             | false ↦ rest
           ]

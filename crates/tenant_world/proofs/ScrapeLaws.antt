@@ -5,13 +5,14 @@ use Rattle.std.specs.Cmp.Lexicographic.{pointwise, bytes_decides}
 use Rattle.op_base.specs.declared.moment.Moment.{Moment}
 use Rattle.op_base.specs.Labels.{Texts, labels_with}
 use Rattle.op_base.specs.Matchers.{label_value}
+use Rattle.op_base.specs.declared.label_names.TheConstants.{NAMESPACE_LABEL}
 use Rattle.form_urlencoded.specs.Form.{append_pair, serialize_pair}
 use Rattle.op_relabel.specs.declared.step.Step.{Step}
 use Rattle.op_relabel.specs.Relabelled.{relabelled}
 use Rattle.op_relabel.specs.Steps.{copy_step, put_step}
 use Rattle.op_relabel.proofs.RelabelLemmas.{relabelled-put, relabelled-copy}
 use Rattle.srv_store.specs.declared.entry.Entry.{Entry}
-use Rattle.srv_store.specs.Stores.{HOME, owns, of_namespace}
+use Rattle.srv_store.specs.Stores.{owns, of_namespace}
 use Rattle.srv_scrape.specs.declared.pages.Sample.{Sample}
 use Rattle.srv_scrape.specs.declared.target.Target.{Target}
 use Rattle.srv_scrape.specs.Joined.{joined}
@@ -46,24 +47,24 @@ module _ (b c d : ℕ) (namespace name url target : List ℕ) (plain_namespace :
   -- the labels before the steps, and after each of them
   abbrev start : Texts
   start =
-      (codes "__address__", d ∷ target) ∷ (codes "__metrics_path__", codes "/probe") ∷ (codes "__scheme__", codes "http") ∷ (codes "job", job_name probe) ∷ (codes "namespace", b ∷ namespace) ∷ []
+      (codes "__address__", d ∷ target) ∷ (codes "__metrics_path__", codes "/probe") ∷ (codes "__scheme__", codes "http") ∷ (codes "job", job_name probe) ∷ (NAMESPACE_LABEL.now, b ∷ namespace) ∷ []
 
   abbrev asked : Texts
   asked =
       (codes "__address__", d ∷ target) ∷ (codes "__metrics_path__", codes "/probe") ∷ (codes "__param_target", d ∷ target) ∷ (codes "__scheme__", codes "http") ∷ (codes "job", job_name probe)
-      ∷ (codes "namespace", b ∷ namespace) ∷ []
+      ∷ (NAMESPACE_LABEL.now, b ∷ namespace) ∷ []
 
   abbrev named : Texts
   named =
       (codes "__address__", d ∷ target) ∷ (codes "__metrics_path__", codes "/probe") ∷ (codes "__param_target", d ∷ target) ∷ (codes "__scheme__", codes "http") ∷ (codes "instance", d ∷ target)
-      ∷ (codes "job", job_name probe) ∷ (codes "namespace", b ∷ namespace) ∷ []
+      ∷ (codes "job", job_name probe) ∷ (NAMESPACE_LABEL.now, b ∷ namespace) ∷ []
 
   abbrev sent : Texts
   sent =
       (codes "__address__", c ∷ url) ∷ (codes "__metrics_path__", codes "/probe") ∷ (codes "__param_target", d ∷ target) ∷ (codes "__scheme__", codes "http") ∷ (codes "instance", d ∷ target)
-      ∷ (codes "job", job_name probe) ∷ (codes "namespace", b ∷ namespace) ∷ []
+      ∷ (codes "job", job_name probe) ∷ (NAMESPACE_LABEL.now, b ∷ namespace) ∷ []
 
-  addressed : with_address (d ∷ target) (as_labels ((codes "namespace", b ∷ namespace) ∷ [])) ≡ (codes "__address__", d ∷ target) ∷ (codes "namespace", b ∷ namespace) ∷ []
+  addressed : with_address (d ∷ target) (as_labels ((NAMESPACE_LABEL.now, b ∷ namespace) ∷ [])) ≡ (codes "__address__", d ∷ target) ∷ (NAMESPACE_LABEL.now, b ∷ namespace) ∷ []
   addressed = refl
 
   starts : discovered (job_of probe) (d ∷ target) ≡ start
@@ -78,7 +79,7 @@ module _ (b c d : ℕ) (namespace name url target : List ℕ) (plain_namespace :
   sends : labels_with named (codes "__address__") (c ∷ url) ≡ sent
   sends = refl
 
-  homes : labels_with sent HOME (b ∷ namespace) ≡ sent
+  homes : labels_with sent NAMESPACE_LABEL.now (b ∷ namespace) ≡ sent
   homes = refl
 
   abbrev pair : List ℕ
@@ -101,24 +102,24 @@ module _ (b c d : ℕ) (namespace name url target : List ℕ) (plain_namespace :
   gives = λ i. Some (record { labels = labels_are i; url = url_is i })
 
   abbrev from_instance : List Step
-  from_instance = copy_step (codes "__param_target") (codes "instance") ∷ put_step (codes "__address__") (c ∷ url) ∷ put_step HOME (b ∷ namespace) ∷ []
+  from_instance = copy_step (codes "__param_target") (codes "instance") ∷ put_step (codes "__address__") (c ∷ url) ∷ put_step NAMESPACE_LABEL.now (b ∷ namespace) ∷ []
 
   abbrev from_address : List Step
-  from_address = put_step (codes "__address__") (c ∷ url) ∷ put_step HOME (b ∷ namespace) ∷ []
+  from_address = put_step (codes "__address__") (c ∷ url) ∷ put_step NAMESPACE_LABEL.now (b ∷ namespace) ∷ []
 
   steps_lead : relabelled (probe_steps probe) start ≡ Some sent
   steps_lead =
       relabelled-copy (codes "__address__") (codes "__param_target") from_instance start ∙ ap (relabelled from_instance) asks
       ∙ relabelled-copy (codes "__param_target") (codes "instance") from_address asked ∙ ap (relabelled from_address) names
-      ∙ relabelled-put (codes "__address__") (c ∷ url) (put_step HOME (b ∷ namespace) ∷ []) named plain_url ∙ ap (relabelled (put_step HOME (b ∷ namespace) ∷ [])) sends
-      ∙ relabelled-put HOME (b ∷ namespace) [] sent plain_namespace ∙ ap (λ l. Some l) homes
+      ∙ relabelled-put (codes "__address__") (c ∷ url) (put_step NAMESPACE_LABEL.now (b ∷ namespace) ∷ []) named plain_url ∙ ap (relabelled (put_step NAMESPACE_LABEL.now (b ∷ namespace) ∷ [])) sends
+      ∙ relabelled-put NAMESPACE_LABEL.now (b ∷ namespace) [] sent plain_namespace ∙ ap (λ l. Some l) homes
 
   target-direct : target_at (job_of probe) (d ∷ target) ≡ Some (probe_target probe)
   target-direct = ap (λ l. option_and_then target_from (relabelled (probe_steps probe) l)) starts ∙ ap (option_and_then target_from) steps_lead ∙ gives
 
 -- a metric step puts the namespace, as the forced label does
 left-of : (p : ThinProbe) (target : Target) (sample : Sample) → IsPlain p.namespace → left_of (manner_of (job_of p)) target sample ≡ left_of (plain_manner p.namespace) target sample
-left-of p target sample plain = ap (left_after [] sample.value) (relabelled-put HOME p.namespace [] (joined false target.labels sample.labels) plain)
+left-of p target sample plain = ap (left_after [] sample.value) (relabelled-put NAMESPACE_LABEL.now p.namespace [] (joined false target.labels sample.labels) plain)
 
 filter_map-same : {A B : Type 0} (f g : A → Option B) → ((x : A) → f x ≡ g x) → (xs : List A) → filter_map f xs ≡ filter_map g xs
 filter_map-same f g same [] = refl
@@ -177,8 +178,8 @@ own-samples : (p : ThinProbe) (t : Moment) (samples : List Sample) → 0 < lengt
 own-samples p t [] some = tt
 own-samples p t (s ∷ samples) some =
     let l = joined false (probe_target p).labels s.labels in
-    own-consed p.namespace t (left_with s.value (labels_with l HOME p.namespace)) (all_left (plain_manner p.namespace) (probe_target p) samples)
-    (own-left p.namespace s.value (labels_with l HOME p.namespace) (owned p.namespace l some)) (own-samples p t samples some)
+    own-consed p.namespace t (left_with s.value (labels_with l NAMESPACE_LABEL.now p.namespace)) (all_left (plain_manner p.namespace) (probe_target p) samples)
+    (own-left p.namespace s.value (labels_with l NAMESPACE_LABEL.now p.namespace) (owned p.namespace l some)) (own-samples p t samples some)
 
 own-page : (p : ThinProbe) (t : Moment) (page : Option (List Sample)) → 0 < length p.namespace → OwnEntries p.namespace (scraped (plain_manner p.namespace) (probe_target p) page t)
 own-page p t None some = own-up p t (pos 0)

@@ -6,6 +6,7 @@ use Rattle.std.specs.List.{flat_map, filter_map}
 use Rattle.op_base.specs.declared.moment.Moment.{Moment}
 use Rattle.op_base.specs.Maps.{Map, value_at, values_of, with_entry}
 use Rattle.op_base.specs.Labels.{Texts}
+use Rattle.op_base.specs.declared.label_names.TheConstants.{NAMESPACE_LABEL}
 use Rattle.cfg_types.specs.declared.config.RuleFile.{RuleFile}
 use Rattle.cfg_types.specs.declared.config.Rule.{Rule as WrittenRule}
 use Rattle.op_report.specs.declared.view.View.{View}
@@ -16,7 +17,6 @@ use Rattle.op_thin.specs.Compiled.{recording_of}
 use Rattle.op_thin.specs.FileOrder.{in_order}
 use Rattle.op_thin.specs.Objects.{fits}
 use Rattle.srv_store.specs.declared.entry.Entry.{Entry}
-use Rattle.srv_store.specs.Stores.{HOME}
 use Rattle.srv_scrape.specs.declared.pages.Sample.{Sample}
 use Rattle.srv_scrape.specs.Pages.{Pages, page_at}
 use Rattle.srv_scrape.specs.Scraped.{Manner, scraped}
@@ -42,7 +42,7 @@ nothing_yet = record { rules = []; probes = []; pages = []; memory = nothing_lef
 
 -- the label `namespace` with the tenant's own name
 abbrev pub home_label : List ℕ → Texts
-home_label n = (HOME, n) ∷ []
+home_label n = (NAMESPACE_LABEL.now, n) ∷ []
 
 -- a rule as it is written
 abbrev pub written_rule : Recording → WrittenRule
