@@ -1,18 +1,19 @@
 -- Lists of entries: order, values that aren't empty, and the place of a name.
-use Rattle.std.proofs.Common.{◌≡◌, ℕ, suc, ◌<◌, ◌≤◌, Bool, true, false, not, ◌&&◌, ◌==◌, T, List, [], ◌∷◌, length, cond, get_or, set, Result, Ok, Err, OnOk, OnErr, refl, ap, sym, subst, ◌∙◌, arith}
+use Rattle.std.proofs.Common.{◌≡◌, ℕ, zero, suc, ◌<◌, ◌≤◌, Bool, true, false, not, ◌&&◌, ◌==◌, T, List, [], ◌∷◌, length, cond, get_or, set, Some, None, Result, Ok, Err, OnOk, OnErr, refl, ap, sym, subst, ◌∙◌, arith}
+use Rattle.std.specs.Prelude.{slice_get, slice_index_or, option_and_then}
 use mathlib.Core.Bool.{true≢false}
 use Rattle.std.specs.declared.cmp.Ordering.{Ordering}
 use Rattle.std.specs.declared.cmp.Ordering.TheVariants.{Less, Equal, Greater}
-use Rattle.std.specs.List.{AllByRecursion, insert}
-use Rattle.std.specs.List.Sorted.{IsStrictlySortedBy}
+use Rattle.std.specs.List.{AllByRecursion, AllWithin, insert, remove}
+use Rattle.std.specs.List.Sorted.{IsStrictlySortedBy, IsPartitionedBy}
 use Rattle.std.specs.Bool.{Decides}
 use Rattle.std.specs.Cmp.{first_so, second_so}
-use Rattle.std.specs.Ordering.{nat_cmp, is_lt, is_eq, is_gt, eq_by_cmp}
+use Rattle.std.specs.Ordering.{nat_cmp, is_lt, is_eq, is_gt, eq_by_cmp, ordering_reverse}
 use Rattle.std.specs.Cmp.Lexicographic.{slice_cmp, pointwise, nat_list_cmp_total, pointwise_decides, bytes_decides}
 use Rattle.std.specs.FinMap.Entries.{by_order, put, where_key, below_all, is_sorted, is_sorted-put, is_sorted-where_key}
-use Rattle.op_base.specs.Maps.{Map, IsMap, with_entry, without_entry, keys_of}
+use Rattle.op_base.specs.Maps.{Map, IsMap, value_at, with_entry, without_entry, keys_of}
 use Rattle.op_base.specs.Labels.{Texts, IsLabels, labels_with, entry_eq}
-use Rattle.op_base.specs.Entries.{place_in, stands_at}
+use Rattle.op_base.specs.Entries.{place_in, stands_at, value_if}
 
 abbrev by_bytes : List ℕ → List ℕ → Ordering
 by_bytes = slice_cmp nat_cmp
@@ -101,6 +102,119 @@ module _ {X : Type 0} where
   pub put-free : (es : Map X) (key : List ℕ) (value : X) (place : ℕ) → place ≡ place_in es key → stands_at es place key ≡ false
       → insert es place (key, value) ≡ with_entry es key value
   put-free es key value place at free = let free_at = rw at at free in rw at (sym (put-before es key value free_at))
+
+greater : (o : Ordering) → is_gt o ≡ true → o ≡ Greater
+greater Less is = absurd (true≢false (sym is))
+greater Equal is = absurd (true≢false (sym is))
+greater Greater is = refl
+
+-- a key that is above another one is above all that are below that
+above : (x y key : List ℕ) → by_bytes x y ≡ Less → is_gt (by_bytes key y) ≡ true → is_gt (by_bytes key x) ≡ true
+above x y key low is =
+    let back : by_bytes y key ≡ Less = nat_list_cmp_total.antisymm y key ∙ ap ordering_reverse (greater _ is) in
+    ap is_gt (nat_list_cmp_total.antisymm key x ∙ ap ordering_reverse (nat_list_cmp_total.trans x y key low back))
+
+-- where the entries stand in order, a search by halves finds what a walk finds
+module _ {X : Type 0} where
+  -- the key is above the entry's
+  abbrev pub is_below : List ℕ → List ℕ × X → Bool
+  is_below key e = is_gt (by_bytes key e.0)
+
+  above_first : (x key : List ℕ) (es : Map X) (j : ℕ) (d : List ℕ × X) → T (below_all by_bytes x es) → j < length es
+      → is_below key (slice_index_or es j d) ≡ true → is_gt (by_bytes key x) ≡ true
+  above_first x key [] j d low lt is = absurd (omega (arith, lt))
+  above_first x key (e ∷ es) zero d low lt is = above x e.0 key (less _ (first _ _ low)) is
+  above_first x key (e ∷ es) (suc j) d low lt is = above_first x key es j d (second _ _ low) (omega (arith, lt)) is
+
+  parted_from : (key : List ℕ) (es : Map X) → T (is_sorted by_bytes es) → IsPartitionedBy (is_below key) es
+  parted_from key [] h i j d le lt is = absurd (omega (arith, lt))
+  parted_from key (e ∷ es) h zero zero d le lt is = is
+  parted_from key (e ∷ es) h zero (suc j) d le lt is = above_first e.0 key es j d (first _ _ h) (omega (arith, lt)) is
+  parted_from key (e ∷ es) h (suc i) zero d le lt is = absurd (omega (arith, le))
+  parted_from key (e ∷ es) h (suc i) (suc j) d le lt is = parted_from key es (second _ _ h) i j d (omega (arith, le)) (omega (arith, lt)) is
+
+  pub parted : (key : List ℕ) (es : Map X) → IsMap es → IsPartitionedBy (is_below key) es
+  parted key es h = parted_from key es (test_of_map es h)
+
+  -- the place that halves leave is that of the key
+  pub place_at : (es : Map X) (key : List ℕ) (i : ℕ) → AllWithin (λ e. is_below key e ≡ true) es 0 i
+      → AllWithin (λ e. is_below key e ≡ false) es i (length es) → i ≤ length es → i ≡ place_in es key
+  place_at [] key zero before behind le = refl
+  place_at [] key (suc i) before behind le = absurd (omega (arith, le))
+  place_at (e ∷ es) key zero before behind le =
+      sym (ap (λ b. cond b (suc (place_in es key)) 0) (behind 0 e (omega arith) (omega arith)))
+  place_at (e ∷ es) key (suc i) before behind le =
+      ap (λ n. suc n) (place_at es key i (λ k d low high. before (suc k) d (omega arith) (omega (arith, high)))
+      (λ k d low high. behind (suc k) d (omega (arith, low)) (omega (arith, high))) (omega (arith, le)))
+      ∙ sym (ap (λ b. cond b (suc (place_in es key)) 0) (before 0 e (omega arith) (omega arith)))
+
+  lower : (x y : List ℕ) (es : Map X) → by_bytes x y ≡ Less → T (below_all by_bytes y es) → T (below_all by_bytes x es)
+  lower x y [] low h = tt
+  lower x y (e ∷ es) low h =
+      both _ _ (subst (λ o. T (is_lt o)) (sym (nat_list_cmp_total.trans x y e.0 low (less _ (first _ _ h)))) tt)
+      (lower x y es low (second _ _ h))
+
+  absent : (key : List ℕ) (es : Map X) → T (below_all by_bytes key es) → value_at es key ≡ None
+  absent key [] h = refl
+  absent key (e ∷ es) h = ap (λ o. cond (is_eq o) (Some e.1) (value_at es key)) (less _ (first _ _ h)) ∙ absent key es (second _ _ h)
+
+  kept_all : (key : List ℕ) (es : Map X) → T (below_all by_bytes key es) → without_entry es key ≡ es
+  kept_all key [] h = refl
+  kept_all key (e ∷ es) h =
+      ap (λ o. cond (not (is_eq o)) (e ∷ without_entry es key) (without_entry es key)) (less _ (first _ _ h))
+      ∙ ap (λ l. e ∷ l) (kept_all key es (second _ _ h))
+
+  found_from : (es : Map X) (key : List ℕ) → T (is_sorted by_bytes es)
+      → value_at es key ≡ option_and_then (value_if key) (slice_get es (place_in es key))
+  found_from [] key h = refl
+  found_from (e ∷ es) key h =
+      elim (by_bytes key e.0) as (λ o. by_bytes key e.0 ≡ o → cond (is_eq o) (Some e.1) (value_at es key)
+      ≡ option_and_then (value_if key) (slice_get (e ∷ es) (cond (is_gt o) (suc (place_in es key)) 0))) [
+        | Less ↦ λ is. absent key es (lower key e.0 es is (first _ _ h)) ∙ sym (ap (λ o. cond (is_eq o) (Some e.1) None) is)
+        | Equal ↦ λ is. sym (ap (λ o. cond (is_eq o) (Some e.1) None) is)
+        | Greater ↦ λ is. found_from es key (second _ _ h)
+      ] refl
+
+  -- the value at a key is that of the entry at its place, where that has the key
+  pub found_at : (es : Map X) (key : List ℕ) → IsMap es → value_at es key ≡ option_and_then (value_if key) (slice_get es (place_in es key))
+  found_at es key h = found_from es key (test_of_map es h)
+
+  removed_from : (es : Map X) (key : List ℕ) → T (is_sorted by_bytes es) → stands_at es (place_in es key) key ≡ true
+      → remove es (place_in es key) ≡ without_entry es key
+  removed_from [] key h found = absurd (true≢false (sym found))
+  removed_from (e ∷ es) key h found =
+      elim (by_bytes key e.0) as (λ o. by_bytes key e.0 ≡ o → stands_at (e ∷ es) (cond (is_gt o) (suc (place_in es key)) 0) key ≡ true
+      → remove (e ∷ es) (cond (is_gt o) (suc (place_in es key)) 0)
+      ≡ cond (not (is_eq o)) (e ∷ without_entry es key) (without_entry es key)) [
+        | Less ↦ λ is f. absurd (true≢false (sym f ∙ ap is_eq is))
+        | Equal ↦ λ is f. sym (kept_all key es (below_equal key e.0 es is (first _ _ h)))
+        | Greater ↦ λ is f. ap (λ l. e ∷ l) (removed_from es key (second _ _ h) f)
+      ] refl found
+    where
+      below_equal : (x y : List ℕ) (es : Map X) → by_bytes x y ≡ Equal → T (below_all by_bytes y es) → T (below_all by_bytes x es)
+      below_equal x y [] same h = tt
+      below_equal x y (e ∷ es) same h =
+          both _ _ (subst (λ o. T (is_lt o)) (sym (nat_list_cmp_total.congr x y e.0 same)) (first _ _ h)) (below_equal x y es same (second _ _ h))
+
+  unmoved_from : (es : Map X) (key : List ℕ) → T (is_sorted by_bytes es) → stands_at es (place_in es key) key ≡ false
+      → es ≡ without_entry es key
+  unmoved_from [] key h free = refl
+  unmoved_from (e ∷ es) key h free =
+      elim (by_bytes key e.0) as (λ o. by_bytes key e.0 ≡ o → stands_at (e ∷ es) (cond (is_gt o) (suc (place_in es key)) 0) key ≡ false
+      → e ∷ es ≡ cond (not (is_eq o)) (e ∷ without_entry es key) (without_entry es key)) [
+        | Less ↦ λ is f. ap (λ l. e ∷ l) (sym (kept_all key es (lower key e.0 es is (first _ _ h))))
+        | Equal ↦ λ is f. absurd (true≢false (sym (ap is_eq is) ∙ f))
+        | Greater ↦ λ is f. ap (λ l. e ∷ l) (unmoved_from es key (second _ _ h) f)
+      ] refl free
+
+  -- without the entry at the place of its key, and as it was where that hasn't the key
+  pub removed_at : (es : Map X) (key : List ℕ) (place : ℕ) → IsMap es → place ≡ place_in es key → stands_at es place key ≡ true
+      → remove es place ≡ without_entry es key
+  removed_at es key place h at found = let found_at = rw at at found in rw at (removed_from es key (test_of_map es h) found_at)
+
+  pub unmoved_at : (es : Map X) (key : List ℕ) (place : ℕ) → IsMap es → place ≡ place_in es key → stands_at es place key ≡ false
+      → es ≡ without_entry es key
+  unmoved_at es key place h at free = let free_at = rw at at free in unmoved_from es key (test_of_map es h) free_at
 
 -- no entry becomes empty
 module _ (P : List ℕ × List ℕ → Type 0) where

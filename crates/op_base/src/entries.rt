@@ -1,28 +1,45 @@
-// The list of entries on which label sets and tags stand.
-ghost use Rattle.std.specs.Prelude.{◌≡◌, length, OnOk, OnErr};
+// The list of entries on which label sets and tags stand. A look-up takes time logarithmic in its length.
+ghost use Rattle.std.specs.Prelude.{◌≡◌, slice_get, option_and_then, OnOk, OnErr};
 ghost use Rattle.std.specs.Option.{option_copied};
-ghost use Rattle.std.specs.Ordering.{nat_cmp, eq_by_cmp};
+ghost use Rattle.std.specs.Ordering.{nat_cmp, is_gt, eq_by_cmp};
 ghost use Rattle.std.specs.Cmp.Lexicographic.{slice_cmp};
-ghost use Rattle.op_base.specs.Maps.{value_at, with_entry, without_entry};
-ghost use Rattle.op_base.specs.Entries.{place_in, stands_at};
+ghost use Rattle.op_base.specs.Maps.{IsMap, value_at, with_entry, without_entry};
+ghost use Rattle.op_base.specs.Entries.{place_in, stands_at, value_if};
 
 use crate::memory::NoMemory;
 use crate::text::Text;
 use std::cmp::Ordering;
 
 pub(crate) fn find<'a>(entries: &'a [(Text, Text)], name: &str) -> Option<&'a str>
+    requires { IsMap entries.now }
     ensures { option_copied result ≡ value_at entries.now name.now }
 {
-    for entry in entries {
-        if has_name(entry, name) {
-            return Some(entry.1.as_str());
-        }
+    value_there(entries, place_of(entries, name), name)
+}
+
+// The value at the place, where the entry there has the name.
+fn value_there<'a>(entries: &'a [(Text, Text)], place: usize, name: &str) -> Option<&'a str>
+    ensures { option_copied result ≡ option_and_then (value_if name.now) (slice_get entries.now place) }
+{
+    match entries.get(place) {
+        Some(entry) => value_in(entry, name),
+        None => None,
     }
-    None
+}
+
+fn value_in<'a>(entry: &'a (Text, Text), name: &str) -> Option<&'a str>
+    ensures { option_copied result ≡ value_if name.now entry.now }
+{
+    if has_name(entry, name) {
+        Some(entry.1.as_str())
+    } else {
+        None
+    }
 }
 
 // Puts the value at the name, in place of any that stood there.
 pub(crate) fn put(entries: &mut Vec<(Text, Text)>, name: Text, value: Text) -> Result<(), NoMemory>
+    requires { IsMap entries.old.items }
     ensures ok { OnOk result (entries.new.items ≡ with_entry entries.old.items name value) }
     ensures err { OnErr result (entries.new.items ≡ entries.old.items) }
 {
@@ -36,22 +53,30 @@ pub(crate) fn put(entries: &mut Vec<(Text, Text)>, name: Text, value: Text) -> R
 }
 
 pub(crate) fn remove(entries: &mut Vec<(Text, Text)>, name: &str)
+    requires { IsMap entries.old.items }
     ensures { entries.new.items ≡ without_entry entries.old.items name.now }
 {
-    entries.retain(|entry| !has_name(entry, name));
+    let place = place_of(entries.as_slice(), name);
+    if is_at(entries.as_slice(), place, name) {
+        let _removed = entries.remove(place);
+    }
 }
 
 fn place_of(entries: &[(Text, Text)], name: &str) -> usize
+    requires { IsMap entries.now }
     ensures { result ≡ place_in entries.now name.now }
 {
-    let mut place = 0;
-    for entry in entries {
-        match name.cmp(entry.0.as_str()) {
-            Ordering::Greater => place += 1,
-            _ => return place,
-        }
+    entries.partition_point(|entry| is_before(entry, name))
+}
+
+// The entry's name is below the name.
+fn is_before(entry: &(Text, Text), name: &str) -> bool
+    ensures { result ≡ is_gt (slice_cmp nat_cmp name.now entry.now.0) }
+{
+    match name.cmp(entry.0.as_str()) {
+        Ordering::Greater => true,
+        _ => false,
     }
-    place
 }
 
 fn is_at(entries: &[(Text, Text)], place: usize, name: &str) -> bool
