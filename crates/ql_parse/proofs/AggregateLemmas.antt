@@ -2,7 +2,7 @@
 use Rattle.std.proofs.Common.{◌≡◌, ℕ, ◌≤◌, List, [], ◌∷◌, ◌++◌, Option, Some, None, refl, ap, sym, subst, ◌∙◌, append_assoc, arith}
 use Rattle.ql_tree.specs.Children.{depth_of}
 use Rattle.ql_tree.specs.Clauses.{GroupingOf}
-use Rattle.ql_tree.specs.Operators.{aggregate_of, grouping_of}
+use Rattle.ql_tree.specs.ClauseWords.{aggregate_of, grouping_of}
 use Rattle.ql_tree.specs.Spells.{Spelling, Operands, Atom}
 use Rattle.ql_tree.specs.declared.tree.AggregateOp.{AggregateOp}
 use Rattle.ql_tree.specs.declared.tree.Expr.{Expr}

@@ -2,7 +2,8 @@
 use Rattle.std.proofs.Common.{◌≡◌, ℕ, ◌<◌, ◌≤◌, List, [], ◌∷◌, ◌++◌, Option, Some, None, refl, ap, sym, subst, ◌∙◌, append_assoc, arith}
 use Rattle.op_base.specs.declared.matcher.Matcher.{Matcher}
 use Rattle.ql_tree.specs.Children.{depth_of}
-use Rattle.ql_tree.specs.Operators.{aggregate_of, sign_of}
+use Rattle.ql_tree.specs.ClauseWords.{aggregate_of}
+use Rattle.ql_tree.specs.Operators.{sign_of}
 use Rattle.ql_tree.specs.Selecting.{Head, SelectorOf}
 use Rattle.ql_tree.specs.Spells.{Spelling, Arguments, Atom}
 use Rattle.ql_tree.specs.declared.tree.AggregateOp.{AggregateOp}
@@ -34,9 +35,9 @@ selector_depth _ _ (SelectorOf.selector name ms r o ts us vs h spelled_r spelled
 
 head_starts : (name : Option (List ℕ)) (ms : List Matcher) (us : List Word) → Head name ms us
     → Starts us
-head_starts _ _ _ (Head.bare name) = Starts.starts (word.Name keyword.Plain name) [] refl
+head_starts _ _ _ (Head.bare name) = Starts.starts (word.Name keyword.Unreserved name) [] refl
 head_starts _ _ _ (Head.named name ms ts apart spelled) =
-    Starts.starts (word.Name keyword.Plain name) _ refl
+    Starts.starts (word.Name keyword.Unreserved name) _ refl
 head_starts _ _ _ (Head.nameless ms ts spelled) = Starts.starts word.OpenBrace _ refl
 
 selector_starts : (e : Expr) (us : List Word) → SelectorOf e us → Starts us
@@ -82,13 +83,13 @@ module _ (n : ℕ) (Inside : Spelling) (inside : ℕ → Reader Expr) where
     name_at_sound : (text : List ℕ) (ts : List Word) (o : Option (List Word))
         (x : Expr × List Word) → 0 < d → beyond word.Open ts ≡ o
         → name_at n (inside d) d text ts o ≡ Some x
-        → TreeRead d (Atom n Inside) (word.Name keyword.Plain text ∷ ts) x
+        → TreeRead d (Atom n Inside) (word.Name keyword.Unreserved text ∷ ts) x
     name_at_sound text ts None x room selects is =
-        selected (word.Name keyword.Plain text ∷ ts) x room is
+        selected (word.Name keyword.Unreserved text ∷ ts) x room is
     name_at_sound text ts (Some us) x room opens is =
         let c = call_sound n d Inside (inside d) sound text us x is in (
-          word.Name keyword.Plain text ∷ word.Open ∷ c.0,
-          ap (λ vs. word.Name keyword.Plain text ∷ vs)
+          word.Name keyword.Unreserved text ∷ word.Open ∷ c.0,
+          ap (λ vs. word.Name keyword.Unreserved text ∷ vs)
               (behind_symbol word.Open ts us opens ∙ ap (λ vs. word.Open ∷ vs) c.1),
           c.2,
           c.3,
@@ -96,7 +97,7 @@ module _ (n : ℕ) (Inside : Spelling) (inside : ℕ → Reader Expr) where
 
     name_sound : (text : List ℕ) (ts : List Word) (x : Expr × List Word) → 0 < d
         → name n (inside d) d text ts ≡ Some x
-        → TreeRead d (Atom n Inside) (word.Name keyword.Plain text ∷ ts) x
+        → TreeRead d (Atom n Inside) (word.Name keyword.Unreserved text ∷ ts) x
     unfolding name
     name_sound text ts x room is = name_at_sound text ts (beyond word.Open ts) x room refl is
 
@@ -133,7 +134,7 @@ module _ (n : ℕ) (Inside : Spelling) (inside : ℕ → Reader Expr) where
         → atom n inside d (word.Name k text ∷ ts) ≡ Some x
         → TreeRead d (Atom n Inside) (word.Name k text ∷ ts) x
     unfolding atom
-    named_sound keyword.Plain text ts x room is = name_sound text ts x room is
+    named_sound keyword.Unreserved text ts x room is = name_sound text ts x room is
     named_sound (keyword.Aggregate op) text ts x room is = aggregated_sound op text ts x is
     named_sound k text ts x room is = cc is
 
@@ -211,7 +212,7 @@ module _ (n : ℕ) (Inside : Spelling) (inside : ℕ → Reader Expr) where
         (Ends.closed rest)
         in
         rw (append_assoc ts (word.Close ∷ []) rest, found) refl
-    atom_complete _ _ rest (Atom.plain_call function some) forward low ends =
+    atom_complete _ _ rest (Atom.empty_call function some) forward low ends =
         empty_call_complete n d Inside (inside d) function rest some low
     atom_complete _ _ rest (Atom.call function args ts spelled) forward low ends =
         rw
@@ -250,10 +251,10 @@ module _ (n : ℕ) (Inside : Spelling) (inside : ℕ → Reader Expr) where
   atom_begins _ _ (Atom.string text) = Starts.starts (word.Quoted text) [] refl
   atom_begins _ _ (Atom.selector e us spelled) = selector_starts e us spelled
   atom_begins _ _ (Atom.bracketed e ts spelled) = Starts.starts word.Open _ refl
-  atom_begins _ _ (Atom.plain_call function some) =
-      Starts.starts (word.Name keyword.Plain function) _ refl
+  atom_begins _ _ (Atom.empty_call function some) =
+      Starts.starts (word.Name keyword.Unreserved function) _ refl
   atom_begins _ _ (Atom.call function args ts spelled) =
-      Starts.starts (word.Name keyword.Plain function) _ refl
+      Starts.starts (word.Name keyword.Unreserved function) _ refl
   atom_begins _ _ (Atom.aggregate w op param e ts is spelled) = aggregate_starts w op _ is
   atom_begins _ _ (Atom.grouped_before w op g param e gs ts is clause spelled) =
       aggregate_starts w op _ is
@@ -268,7 +269,7 @@ module _ (n : ℕ) (Inside : Spelling) (inside : ℕ → Reader Expr) where
   atom_unsigned _ _ rest (Atom.string text) = refl
   atom_unsigned _ _ rest (Atom.selector e us spelled) = selector_unsigned e us rest spelled
   atom_unsigned _ _ rest (Atom.bracketed e ts spelled) = refl
-  atom_unsigned _ _ rest (Atom.plain_call function some) = refl
+  atom_unsigned _ _ rest (Atom.empty_call function some) = refl
   atom_unsigned _ _ rest (Atom.call function args ts spelled) = refl
   atom_unsigned _ _ rest (Atom.aggregate w op param e ts is spelled) =
       rw (aggregate_unsigned w op is) refl

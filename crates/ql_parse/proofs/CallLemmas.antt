@@ -93,8 +93,8 @@ module _ (n d : ℕ) (Inside : Spelling) (inside : Reader Expr) where
   ]
 
   call_made : (function : List ℕ) (es : List Expr) (us : List Word) → 0 < n → Called es us
-      → Atom n Inside (expr.Call function es) (word.Name keyword.Plain function ∷ word.Open ∷ us)
-  call_made function _ _ room Called.empty = Atom.plain_call function room
+      → Atom n Inside (expr.Call function es) (word.Name keyword.Unreserved function ∷ word.Open ∷ us)
+  call_made function _ _ room Called.empty = Atom.empty_call function room
   call_made function _ _ room (Called.some es ts spelled) = Atom.call function es ts spelled
 
   arguments_begin : Begins Inside → (es : List Expr) (us : List Word) → Arguments Inside es us
@@ -107,7 +107,7 @@ module _ (n d : ℕ) (Inside : Spelling) (inside : Reader Expr) where
       → (function : List ℕ) (ts : List Word) (x : Expr × List Word)
       → call n inside d function ts ≡ Some x
       → (us : List Word) × (ts ≡ us ++ x.1) × Atom n Inside x.0
-      (word.Name keyword.Plain function ∷ word.Open ∷ us) × (depth_of x.0 ≤ d)
+      (word.Name keyword.Unreserved function ∷ word.Open ∷ us) × (depth_of x.0 ≤ d)
   unfolding call
   call_sound sound function ts x is =
       let room = test_ok (nat_lt 0 n) _ x is in
@@ -116,7 +116,7 @@ module _ (n d : ℕ) (Inside : Spelling) (inside : Reader Expr) where
       let fits = fitting_ok d (expr.Call function args.0.0) args.0.1 x args.2 in
       subst
       (λ (y : Expr × List Word). (us : List Word) × (ts ≡ us ++ y.1)
-      × Atom n Inside y.0 (word.Name keyword.Plain function ∷ word.Open ∷ us) × (depth_of y.0 ≤ d))
+      × Atom n Inside y.0 (word.Name keyword.Unreserved function ∷ word.Open ∷ us) × (depth_of y.0 ≤ d))
       fits.1
       (a.0, a.1, call_made function args.0.0 a.0 (ltb-true 0 n room.0) a.2, fits.0)
 

@@ -4,7 +4,7 @@ use Rattle.std.proofs.Common.{◌≡◌, ◌<◌, inl, inr, ℕ, Bool, true, fal
 use Rattle.std.proofs.lemmas.Bool.{ltb-true, lt-ltb}
 use Rattle.op_base.specs.Names.{is_label_name}
 use Rattle.ql_tree.specs.Clauses.{Labels, SideOf, MatchingOf, GroupingOf}
-use Rattle.ql_tree.specs.Operators.{matching_of, side_of, grouping_of}
+use Rattle.ql_tree.specs.ClauseWords.{matching_of, side_of, grouping_of}
 use Rattle.ql_tree.specs.Spells.{begins_open, BoolOf}
 use Rattle.ql_tree.specs.declared.tree.Matching.{Matching}
 use Rattle.ql_tree.specs.declared.tree.Side.{Side}

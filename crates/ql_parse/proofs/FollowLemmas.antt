@@ -2,7 +2,8 @@
 use Rattle.std.proofs.Common.{◌≡◌, ◌≢◌, ℕ, suc, ◌<◌, Bool, true, false, List, [], ◌∷◌, ◌++◌, Option, Some, None, refl, ap, subst, ◌∙◌, arith}
 use Rattle.std.proofs.lemmas.Bool.{eqb-true, ne_eqb, eq-eqb}
 use Rattle.ql_tree.specs.Clauses.{MatchingOf}
-use Rattle.ql_tree.specs.Operators.{operator_of, keyword_operator, level_of, sign_of, aggregate_of, keyword_aggregate, matching_of, keyword_matching, side_of, grouping_of}
+use Rattle.ql_tree.specs.ClauseWords.{aggregate_of, keyword_aggregate, matching_of, keyword_matching, side_of, grouping_of}
+use Rattle.ql_tree.specs.Operators.{operator_of, keyword_operator, level_of, sign_of}
 use Rattle.ql_tree.specs.Spells.{begins_open}
 use Rattle.ql_tree.specs.declared.tree.AggregateOp.{AggregateOp}
 use Rattle.ql_tree.specs.declared.tree.BinaryOp.{BinaryOp}
@@ -18,7 +19,7 @@ use Rattle.ql_parse.proofs.Readers.{some_is, bind_ok, test_ok}
 -- ---- what an operand begins with
 
 abbrev keyword_begins : Keyword → Bool
-keyword_begins keyword.Plain = true
+keyword_begins keyword.Unreserved = true
 keyword_begins (keyword.Aggregate op) = true
 keyword_begins _ = false
 
@@ -51,7 +52,7 @@ record Begun (w : Word) : Type 0 where
 
 keyword_begun : (k : Keyword) (text : List ℕ) → keyword_begins k ≡ true → Begun (word.Name k text)
 unfolding side_of matching_of
-keyword_begun keyword.Plain text is =
+keyword_begun keyword.Unreserved text is =
     record { side = refl; matching = refl; boolean = refl; close = refl }
 keyword_begun (keyword.Aggregate op) text is =
     record { side = refl; matching = refl; boolean = refl; close = refl }

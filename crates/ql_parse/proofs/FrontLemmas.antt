@@ -1,13 +1,12 @@
 -- Which word it is that a front test has found.
-use Rattle.std.proofs.Common.{◌≡◌, ℕ, true, List, [], ◌∷◌, Some, refl, ap, subst, ◌∙◌}
+use Rattle.std.proofs.Common.{◌≡◌, ℕ, true, List, ◌∷◌, Some, refl, ap, subst, ◌∙◌}
 use Rattle.op_base.specs.Names.{is_label_name}
 use Rattle.op_base.specs.declared.span.Span.{Span}
-use Rattle.ql_tree.specs.Spells.{begins_open}
 use Rattle.ql_tree.specs.declared.word.Keyword.{Keyword}
 use Rattle.ql_tree.specs.declared.word.Keyword.TheVariants as keyword
 use Rattle.ql_tree.specs.declared.word.Word.{Word}
 use Rattle.ql_tree.specs.declared.word.Word.TheVariants as word
-use Rattle.ql_parse.specs.FrontWords.{beyond, is_symbol, same_keyword, beyond_keyword, is_keyword, label_of, plain_of, quoted_of, length_of}
+use Rattle.ql_parse.specs.FrontWords.{beyond, is_symbol, same_keyword, beyond_keyword, is_keyword, label_of, unreserved_of, quoted_of, length_of}
 use Rattle.ql_parse.proofs.Readers.{some_is, test_ok, behind_ok}
 
 symbol_is : (v w : Word) → is_symbol v w ≡ true → w ≡ v
@@ -54,16 +53,16 @@ label_is (word.Name k text) label is =
     (k, ap (λ l. word.Name k l) same, subst (λ l. is_label_name l ≡ true) same t.0)
 label_is w label is = cc is
 
-keyword_plain : (k : Keyword) (text name : List ℕ) → plain_of (word.Name k text) ≡ Some name
-    → word.Name k text ≡ word.Name keyword.Plain name
-keyword_plain keyword.Plain text name is =
-    ap (λ t. word.Name keyword.Plain t) (some_is text name is)
-keyword_plain k text name is = cc is
+keyword_unreserved : (k : Keyword) (text name : List ℕ) → unreserved_of (word.Name k text) ≡ Some name
+    → word.Name k text ≡ word.Name keyword.Unreserved name
+keyword_unreserved keyword.Unreserved text name is =
+    ap (λ t. word.Name keyword.Unreserved t) (some_is text name is)
+keyword_unreserved k text name is = cc is
 
-pub plain_is : (w : Word) (name : List ℕ) → plain_of w ≡ Some name
-    → w ≡ word.Name keyword.Plain name
-plain_is (word.Name k text) name is = keyword_plain k text name is
-plain_is w name is = cc is
+pub unreserved_is : (w : Word) (name : List ℕ) → unreserved_of w ≡ Some name
+    → w ≡ word.Name keyword.Unreserved name
+unreserved_is (word.Name k text) name is = keyword_unreserved k text name is
+unreserved_is w name is = cc is
 
 pub quoted_is : (w : Word) (text : List ℕ) → quoted_of w ≡ Some text → w ≡ word.Quoted text
 quoted_is (word.Quoted own) text is = ap (λ t. word.Quoted t) (some_is own text is)
@@ -72,9 +71,3 @@ quoted_is w text is = cc is
 pub length_is : (w : Word) (span : Span) → length_of w ≡ Some span → w ≡ word.Duration span
 length_is (word.Duration own) span is = ap (λ s. word.Duration s) (some_is own span is)
 length_is w span is = cc is
-
--- words that begin with `(` and those that have something behind it
-pub begins_behind : (ts : List Word) → begins_open ts ≡ true
-    → (rest : List Word) × (ts ≡ word.Open ∷ rest)
-begins_behind [] is = cc is
-begins_behind (w ∷ ts) is = (ts, ap (λ v. v ∷ ts) (symbol_is word.Open w is))

@@ -42,36 +42,48 @@ module _ {A : Type 0} (items : ℕ → Reader (List A)) (whole : Found (List A))
       let spent : total - step ≡ 0 = omega arith in
       sym so_far ∙ ap (λ m. with_all found (items m rest)) spent ∙ ap (with_all found) (none rest)
 
-  -- an item is to be read
-  module _ (closing : Word) (item : Reader A) (inside : step < total)
-      (reads : (m : ℕ) → items (suc m) rest ≡ (item rest >>= followed closing (items m))) where
-    pub no_item : (fault : ParseFault) → Lacks fault (item rest) → Lacks fault whole
-    no_item NotExpr lacks =
-        stops inside None (λ m. reads m ∙ ap (λ o. o >>= followed closing (items m)) lacks)
-    no_item NoMemory lacks = tt
+-- A turn where an item is to be read: the items so far, and what is read of the rest in the turns that are
+-- left, are the whole.
+pub record Turn {A : Type 0} (items : ℕ → Reader (List A)) (closing : Word) (item : Reader A)
+    (whole : Found (List A)) (found : List A) (total step : ℕ) (ts : List Word) : Type 0 where
+  pub so_far : with_all found (items (total - step) ts) ≡ whole
+  pub inside : step < total
+  pub reads : (m : ℕ) → items (suc m) ts ≡ (item ts >>= followed closing (items m))
 
-    module _ (x : A) (next : List Word) (is : item rest ≡ Some (x, next)) where
-      pub last_one : (new : List A) (end : List Word) → new ≡ found ++ x ∷ []
-          → beyond closing next ≡ Some end → whole ≡ Some (new, end)
-      last_one new end grown closes =
-          stops inside (Some (x ∷ [], end)) (λ m. reads m ∙ rw (is, closes) refl)
-          ∙ ap (λ xs. Some (xs, end)) (sym grown)
+module _ {A : Type 0} {items : ℕ → Reader (List A)} {closing : Word} {item : Reader A}
+    {whole : Found (List A)} {found : List A} {total step : ℕ} {ts : List Word}
+    (turn : Turn items closing item whole found total step ts) where
+  -- what the turn reads is read in it
+  turned : (read : Found (List A)) → ((m : ℕ) → items (suc m) ts ≡ read) → whole ≡ with_all found read
+  turned read is = stops items whole found total step ts turn.so_far turn.inside read is
 
-      pub no_comma : beyond closing next ≡ None → beyond word.Comma next ≡ None → whole ≡ None
-      no_comma goes_on none = stops inside None (λ m. reads m ∙ rw (is, goes_on, none) refl)
+  pub no_item : (fault : ParseFault) → Lacks fault (item ts) → Lacks fault whole
+  no_item NotExpr lacks =
+      turned None (λ m. turn.reads m ∙ ap (λ o. o >>= followed closing (items m)) lacks)
+  no_item NoMemory lacks = tt
 
-      pub one_more : (new : List A) (after : List Word) → new ≡ found ++ x ∷ []
-          → beyond closing next ≡ None → beyond word.Comma next ≡ Some after
-          → with_all new (items (total - (step + 1)) after) ≡ whole
-      one_more new after grown goes_on comma =
-          let left = total - (step + 1) in
-          let turn : items (suc left) rest ≡ with_front x (items left after) =
-          reads left ∙ rw (is, goes_on, comma) refl
-          in
-          ap (λ xs. with_all xs (items left after)) grown
-          ∙ sym (all_front found x (items left after))
-          ∙ ap (with_all found) (sym turn)
-          ∙ ap (λ m. with_all found (items m rest)) (sym (one_left total step inside)) ∙ so_far
+  module _ (x : A) (next : List Word) (is : item ts ≡ Some (x, next)) where
+    pub last_one : (new : List A) (end : List Word) → new ≡ found ++ x ∷ []
+        → beyond closing next ≡ Some end → whole ≡ Some (new, end)
+    last_one new end grown closes =
+        turned (Some (x ∷ [], end)) (λ m. turn.reads m ∙ rw (is, closes) refl)
+        ∙ ap (λ xs. Some (xs, end)) (sym grown)
+
+    pub no_comma : beyond closing next ≡ None → beyond word.Comma next ≡ None → whole ≡ None
+    no_comma goes_on none = turned None (λ m. turn.reads m ∙ rw (is, goes_on, none) refl)
+
+    pub one_more : (new : List A) (after : List Word) → new ≡ found ++ x ∷ []
+        → beyond closing next ≡ None → beyond word.Comma next ≡ Some after
+        → with_all new (items (total - (step + 1)) after) ≡ whole
+    one_more new after grown goes_on comma =
+        let left = total - (step + 1) in
+        let read : items (suc left) ts ≡ with_front x (items left after) =
+        turn.reads left ∙ rw (is, goes_on, comma) refl
+        in
+        ap (λ xs. with_all xs (items left after)) grown
+        ∙ sym (all_front found x (items left after))
+        ∙ ap (with_all found) (sym read)
+        ∙ ap (λ m. with_all found (items m ts)) (sym (one_left total step turn.inside)) ∙ turn.so_far
 
 -- a list of items that are all read alike
 module _ {A : Type 0} (closing : Word) (item : Reader A) (ts : List Word) where

@@ -12,10 +12,10 @@ use Rattle.ql_tree.specs.declared.word.Keyword.TheVariants as keyword
 use Rattle.ql_tree.specs.declared.word.Word.{Word}
 use Rattle.ql_tree.specs.declared.word.Word.TheVariants as word
 use Rattle.ql_parse.specs.Found.{first}
-use Rattle.ql_parse.specs.FrontWords.{beyond, beyond_keyword, label_of, plain_of, quoted_of, length_of}
+use Rattle.ql_parse.specs.FrontWords.{beyond, beyond_keyword, label_of, unreserved_of, quoted_of, length_of}
 use Rattle.ql_parse.specs.ReadSelectors.{matcher, braces, Headed, head_behind, head_at, head, range_at, range, offset_by, offset_at, offset, selector}
 use Rattle.ql_parse.proofs.Readers.{found_is, bind_ok, test_ok, if_ok, first_ok, Spelled, Sound, joined}
-use Rattle.ql_parse.proofs.FrontLemmas.{behind_symbol, behind_keyword, plain_is, quoted_is, length_is}
+use Rattle.ql_parse.proofs.FrontLemmas.{behind_symbol, behind_keyword, unreserved_is, quoted_is, length_is}
 use Rattle.ql_parse.proofs.ForwardLemmas.{Forward, back_part}
 use Rattle.ql_parse.proofs.ListLemmas.{Items, Between, enclosed_sound, enclosed_complete}
 use Rattle.ql_parse.proofs.ClauseLemmas.{front_label}
@@ -88,14 +88,14 @@ HeadOf h = Head h.0 h.1
 
 head_behind_sound : (name : List ℕ) (us : List Word) (o : Option (List Word))
     (x : Headed × List Word)
-    → head_behind name us o ≡ Some x → Spelled HeadOf (word.Name keyword.Plain name ∷ us) x
+    → head_behind name us o ≡ Some x → Spelled HeadOf (word.Name keyword.Unreserved name ∷ us) x
 head_behind_sound name us None x is =
     found_is
-    (Spelled HeadOf (word.Name keyword.Plain name ∷ us))
+    (Spelled HeadOf (word.Name keyword.Unreserved name ∷ us))
     ((Some name, []), us)
     x
     is
-    (word.Name keyword.Plain name ∷ [], refl, Head.bare name)
+    (word.Name keyword.Unreserved name ∷ [], refl, Head.bare name)
 head_behind_sound name us (Some vs) x is =
     let ms = bind_ok (braces us) _ x is in
     let b = braces_sound us ms.0 ms.1 in
@@ -103,18 +103,18 @@ head_behind_sound name us (Some vs) x is =
       | inl clash ↦ cc clash.1
       | inr apart ↦
           found_is
-          (Spelled HeadOf (word.Name keyword.Plain name ∷ us))
+          (Spelled HeadOf (word.Name keyword.Unreserved name ∷ us))
           ((Some name, ms.0.0), ms.0.1)
           x
           apart.1 (
-            word.Name keyword.Plain name ∷ word.OpenBrace ∷ (b.0 ++ (word.CloseBrace ∷ [])),
-            ap (λ vs. word.Name keyword.Plain name ∷ vs) b.1,
+            word.Name keyword.Unreserved name ∷ word.OpenBrace ∷ (b.0 ++ (word.CloseBrace ∷ [])),
+            ap (λ vs. word.Name keyword.Unreserved name ∷ vs) b.1,
             Head.named name ms.0.0 b.0 apart.0 b.2,
           )
     ]
 
 head_at_sound : (ts : List Word) (o : Option (List ℕ × List Word)) (x : Headed × List Word)
-    → first plain_of ts ≡ o
+    → first unreserved_of ts ≡ o
     → head_at ts o ≡ Some x → Spelled HeadOf ts x
 head_at_sound ts None x no_name is =
     let ms = bind_ok (braces ts) _ x is in
@@ -122,16 +122,16 @@ head_at_sound ts None x no_name is =
     found_is (Spelled HeadOf ts) ((None, ms.0.0), ms.0.1) x ms.2
     (word.OpenBrace ∷ (b.0 ++ (word.CloseBrace ∷ [])), b.1, Head.nameless ms.0.0 b.0 b.2)
 head_at_sound ts (Some v) x some is =
-    let f = first_ok plain_of ts v some in
-    let same : ts ≡ word.Name keyword.Plain v.0 ∷ v.1 =
-    f.1 ∙ ap (λ w. w ∷ v.1) (plain_is f.0 v.0 f.2)
+    let f = first_ok unreserved_of ts v some in
+    let same : ts ≡ word.Name keyword.Unreserved v.0 ∷ v.1 =
+    f.1 ∙ ap (λ w. w ∷ v.1) (unreserved_is f.0 v.0 f.2)
     in
     let h = head_behind_sound v.0 v.1 (beyond word.OpenBrace v.1) x is in
     (h.0, same ∙ h.1, h.2)
 
 head_sound : Sound HeadOf head
 unfolding head
-head_sound ts x is = head_at_sound ts (first plain_of ts) x refl is
+head_sound ts x is = head_at_sound ts (first unreserved_of ts) x refl is
 
 head_complete : (name : Option (List ℕ)) (ms : List Matcher) (us rest : List Word) → Head name ms us
     → beyond word.OpenBrace rest ≡ None → head (us ++ rest) ≡ Some ((name, ms), rest)

@@ -21,6 +21,7 @@ use Rattle.ql_parse.specs.Reading.{signed, sign_at, under_sign, turn, right, cha
 use Rattle.ql_parse.specs.declared.fault.ParseFault.{ParseFault}
 use Rattle.ql_parse.specs.declared.fault.ParseFault.TheVariants.{NotExpr, NoMemory}
 use Rattle.ql_parse.proofs.DepthLemmas.{depths, depths-append}
+use Rattle.ql_parse.proofs.ListSteps.{Turn, with_all}
 
 -- what isn't read leaves nothing to go on with
 lacks_more : {A B : Type 0} (fault : ParseFault) (read : Option A) (more : A → Option B)
@@ -190,7 +191,7 @@ unfolding name
 name_call n d text ts us is = rw is refl
 
 pub name_select : (n d : ℕ) (text : List ℕ) (ts : List Word) → beyond word.Open ts ≡ None
-    → name_in n d text ts ≡ selector (word.Name keyword.Plain text ∷ ts)
+    → name_in n d text ts ≡ selector (word.Name keyword.Unreserved text ∷ ts)
 unfolding name
 name_select n d text ts is = rw is refl
 
@@ -206,7 +207,7 @@ unfolding call_arguments
 arguments_some n d ts is = rw is refl
 
 module _ (n d : ℕ) (ts : List Word) where
-  pub arguments_read : (m : ℕ) → arguments (suc m) (within n d) ts
+  arguments_read : (m : ℕ) → arguments (suc m) (within n d) ts
       ≡ (within n d ts >>= followed word.Close (arguments m (within n d)))
   unfolding arguments
   arguments_read m = refl
@@ -214,6 +215,13 @@ module _ (n d : ℕ) (ts : List Word) where
   pub no_argument : arguments 0 (within n d) ts ≡ None
   unfolding arguments
   no_argument = refl
+
+-- where an argument is to be read
+pub arguments_turn : (n d : ℕ) (whole : Found (List Expr)) (found : List Expr) (total step : ℕ) (ts : List Word)
+    → with_all found (arguments (total - step) (within n d) ts) ≡ whole → step < total
+    → Turn (λ m. arguments m (within n d)) word.Close (within n d) whole found total step ts
+arguments_turn n d whole found total step ts so_far inside =
+    record { so_far = so_far; inside = inside; reads = arguments_read n d ts }
 
 pub depth_pushed : (found new : List Expr) (e : Expr) (before own : ℕ) → new ≡ found ++ e ∷ []
     → before ≡ greatest (map depth_of found)

@@ -1,11 +1,11 @@
 -- Reading finds the one tree that a text spells, or the text spells none.
 use Rattle.std.proofs.Common.{◌≡◌, ℕ, List, map, Some, None, Ok, sym, subst, ◌∙◌}
 use Rattle.ql_tree.specs.Spells.{Within, Spells}
-use Rattle.ql_tree.specs.Tokens.{IsTokens, IsBadAt}
+use Rattle.ql_tree.specs.Tokens.{IsTokens}
 use Rattle.ql_tree.specs.Words.{word_in}
 use Rattle.ql_tree.specs.declared.token.Token.{Token}
 use Rattle.ql_tree.specs.declared.tree.Expr.{Expr}
-use Rattle.ql_tree.proofs.TokenLemmas.{cut_alone, no_tokens_where_bad}
+use Rattle.ql_tree.proofs.TokenLemmas.{cut_alone}
 use Rattle.ql_parse.specs.Reading.{read}
 use Rattle.ql_parse.proofs.Readers.{some_is}
 use Rattle.ql_parse.proofs.ForwardLemmas.{words_forward}
@@ -41,12 +41,6 @@ pub no_tree_read : (text : List ℕ) (ts : List Token) (e : Expr) → IsTokens t
     → Spells e text → ⊥
 no_tree_read text ts e tokens is spelled =
     let clash : Some e ≡ None = sym (read_spells text ts e spelled tokens) ∙ is in cc
-
--- a text that isn't cut into tokens spells no tree
-pub no_tree_where_bad : (text : List ℕ) (place : ℕ) (e : Expr) → IsBadAt text place → Spells e text
-    → ⊥
-no_tree_where_bad text place e broken spelled =
-    no_tokens_where_bad text place spelled.tokens broken spelled.are_tokens
 
 -- no text spells two trees
 pub one_tree : (text : List ℕ) (e f : Expr) → Spells e text → Spells f text → e ≡ f

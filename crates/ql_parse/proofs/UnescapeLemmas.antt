@@ -82,19 +82,19 @@ pub in_backticks : (quote b : ℕ) (t : List ℕ) → b ≢ quote → quote ≡ 
     → IsPiece quote (b ∷ t) (b ∷ []) 1
 in_backticks quote b t other e = byte_is quote b t other (raw_piece quote b t e)
 
-plain_piece : (quote b : ℕ) (t : List ℕ) → quote ≢ 96 → b ≢ 10 → b ≢ 92
+unescaped_piece : (quote b : ℕ) (t : List ℕ) → quote ≢ 96 → b ≢ 10 → b ≢ 92
     → piece_at quote (b ∷ t) ≡ Some (b ∷ [], 1)
 unfolding piece_at
-plain_piece quote b t quoted line slash =
+unescaped_piece quote b t quoted line slash =
     let x : (quote == 96) ≡ false = grind arith in
     let y : (b == 10) ≡ false = grind arith in
     let z : (b == 92) ≡ false = grind arith in
     rw (x, y, z) refl
 
-pub plain : (quote b : ℕ) (t : List ℕ) → b ≢ quote → quote ≢ 96 → b ≢ 10 → b ≢ 92
+pub unescaped_byte : (quote b : ℕ) (t : List ℕ) → b ≢ quote → quote ≢ 96 → b ≢ 10 → b ≢ 92
     → IsPiece quote (b ∷ t) (b ∷ []) 1
-plain quote b t other quoted line slash =
-    byte_is quote b t other (plain_piece quote b t quoted line slash)
+unescaped_byte quote b t other quoted line slash =
+    byte_is quote b t other (unescaped_piece quote b t quoted line slash)
 
 no_piece : (quote b : ℕ) (t : List ℕ) → quote ≢ 96 → b ≡ 10 → piece_at quote (b ∷ t) ≡ None
 unfolding piece_at
@@ -168,11 +168,11 @@ pub at_newline : (quote : ℕ) (bytes : List ℕ) → 0 < length bytes → get_o
 at_newline quote [] some other quoted e = absurd (omega arith)
 at_newline quote (b ∷ t) some other quoted e = at_line quote b t other quoted e
 
-pub at_plain : (quote : ℕ) (bytes : List ℕ) → 0 < length bytes → get_or bytes 0 0 ≢ quote
+pub at_unescaped : (quote : ℕ) (bytes : List ℕ) → 0 < length bytes → get_or bytes 0 0 ≢ quote
     → quote ≢ 96 → get_or bytes 0 0 ≢ 10
     → get_or bytes 0 0 ≢ 92 → IsPiece quote bytes (get_or bytes 0 0 ∷ []) 1
-at_plain quote [] some other quoted line slash = absurd (omega arith)
-at_plain quote (b ∷ t) some other quoted line slash = plain quote b t other quoted line slash
+at_unescaped quote [] some other quoted line slash = absurd (omega arith)
+at_unescaped quote (b ∷ t) some other quoted line slash = unescaped_byte quote b t other quoted line slash
 
 -- what was read before and what is left, after one piece more
 joined_twice : (before piece : List ℕ) (o : Option (List ℕ))

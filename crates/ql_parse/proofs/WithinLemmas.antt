@@ -87,10 +87,3 @@ read_complete ts e spelled forward low =
     within_complete 401 200 e ts [] spelled forward low Ends.nothing
     in
     ap whole (ap (within 401 200) (sym (append-nil ts)) ∙ found)
-
--- no list of words has two trees
-pub one_within : (ts : List Word) (e f : Expr) → Forward ts → Within 401 e ts → depth_of e ≤ 200
-    → Within 401 f ts → depth_of f ≤ 200 → e ≡ f
-one_within ts e f forward spelled low other other_low =
-    some_is e f (sym (read_complete ts e spelled forward low)
-    ∙ read_complete ts f other forward other_low)

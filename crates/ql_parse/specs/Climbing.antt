@@ -1,5 +1,7 @@
--- The readers of the code, with what they read between brackets.
-use Rattle.std.specs.Prelude.{ℕ, ◌+◌, List, [], ◌∷◌, Option, Some}
+-- The readers of the code, with what they read between brackets, and the depth that stands beside a tree that
+-- was read. Contracts of the crate's own calls cite these.
+use Rattle.std.specs.Prelude.{◌≡◌, ℕ, ◌+◌, ◌≤◌, List, [], ◌∷◌, Option, Some}
+use Rattle.ql_tree.specs.Children.{depth_of}
 use Rattle.ql_tree.specs.declared.tree.AggregateOp.{AggregateOp}
 use Rattle.ql_tree.specs.declared.tree.Expr.{Expr}
 use Rattle.ql_tree.specs.declared.tree.Grouping.{Grouping}
@@ -7,6 +9,10 @@ use Rattle.ql_tree.specs.declared.word.Word.{Word}
 use Rattle.ql_parse.specs.Found.{Found, Reader, ◌>>=◌}
 use Rattle.ql_parse.specs.ReadTerms.{Operated, atom, name, call, call_arguments, operands, grouping_behind, aggregated, aggregate, closed}
 use Rattle.ql_parse.specs.Reading.{chain, level, within}
+
+-- the depth is the tree's own, and at most d
+abbrev pub IsDepth : ℕ → Expr → ℕ → Type 0
+IsDepth d e depth = (depth ≡ depth_of e) × (depth ≤ d)
 
 -- what stands between operators and signs, where n brackets may be opened
 abbrev pub atom_in : ℕ → ℕ → Reader Expr

@@ -47,9 +47,9 @@ label_of (word.Name k text) = if is_label_name text then Some text else None
 label_of _ = None
 
 -- a name that isn't reserved
-abbrev pub plain_of : Word → Option (List ℕ)
-plain_of (word.Name keyword.Plain text) = Some text
-plain_of _ = None
+abbrev pub unreserved_of : Word → Option (List ℕ)
+unreserved_of (word.Name keyword.Unreserved text) = Some text
+unreserved_of _ = None
 
 -- the text of a string
 abbrev pub quoted_of : Word → Option (List ℕ)

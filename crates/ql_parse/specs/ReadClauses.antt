@@ -1,7 +1,7 @@
 -- The reading of lists of labels, and of the clauses that have one. `n` is how many round brackets
 -- may still be opened where the words stand.
 use Rattle.std.specs.Prelude.{ℕ, Bool, true, false, List, [], Option, Some, None, nat_lt, if◌then◌else◌}
-use Rattle.ql_tree.specs.Operators.{matching_of, side_of, grouping_of}
+use Rattle.ql_tree.specs.ClauseWords.{matching_of, side_of, grouping_of}
 use Rattle.ql_tree.specs.Spells.{begins_open}
 use Rattle.ql_tree.specs.declared.tree.Matching.{Matching}
 use Rattle.ql_tree.specs.declared.tree.Side.{Side}

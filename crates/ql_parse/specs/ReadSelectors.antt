@@ -12,7 +12,7 @@ use Rattle.ql_tree.specs.declared.word.Word.{Word}
 use Rattle.ql_tree.specs.declared.word.Word.TheVariants as word
 use Rattle.ql_parse.specs.CommaLists.{enclosed}
 use Rattle.ql_parse.specs.Found.{Found, Reader, ◌>>=◌, first}
-use Rattle.ql_parse.specs.FrontWords.{beyond, beyond_keyword, label_of, plain_of, quoted_of, length_of}
+use Rattle.ql_parse.specs.FrontWords.{beyond, beyond_keyword, label_of, unreserved_of, quoted_of, length_of}
 
 -- a label, an operator and a string
 unfoldable pub matcher : Reader Matcher
@@ -48,7 +48,7 @@ head_at ts (Some name) = head_behind name.0 name.1 (beyond word.OpenBrace name.1
 
 -- a name that isn't reserved, matchers in braces, or both
 unfoldable pub head : Reader Headed
-head ts = head_at ts (first plain_of ts)
+head ts = head_at ts (first unreserved_of ts)
 
 -- the duration, where it is above 0
 abbrev pub above_zero : Span → List Word → Found (Option Span)

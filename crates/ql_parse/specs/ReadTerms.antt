@@ -68,7 +68,7 @@ aggregate n inside d op ts =
 -- behind a name, by the words behind `(`, if it stands in front: a call, else a selector
 abbrev pub name_at
     : ℕ → Reader Expr → ℕ → List ℕ → List Word → Option (List Word) → Found Expr
-name_at n inside d text ts None = selector (word.Name keyword.Plain text ∷ ts)
+name_at n inside d text ts None = selector (word.Name keyword.Unreserved text ∷ ts)
 name_at n inside d text ts (Some us) = call n inside d text us
 
 -- a name: a call where a bracket follows, else a selector
@@ -82,6 +82,6 @@ atom n inside d (word.Number z ∷ ts) = Some (expr.Number z, ts)
 atom n inside d (word.Quoted text ∷ ts) = Some (expr.Str text, ts)
 atom n inside d (word.Open ∷ ts) = inside d ts >>= λ e. closed e.0 e.1
 atom n inside d (word.OpenBrace ∷ ts) = selector (word.OpenBrace ∷ ts)
-atom n inside d (word.Name keyword.Plain text ∷ ts) = name n (inside d) d text ts
+atom n inside d (word.Name keyword.Unreserved text ∷ ts) = name n (inside d) d text ts
 atom n inside d (word.Name (keyword.Aggregate op) text ∷ ts) = aggregate n (inside d) d op ts
 atom n inside d (w ∷ ts) = None

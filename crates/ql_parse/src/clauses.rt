@@ -25,7 +25,7 @@ impl Item for Text {
 
     fn read(alloc: Global, words: &[Word]) -> Result<(Text, &[Word]), ParseFault> {
         match label(words) {
-            Some((text, rest)) => Ok((Text::from_str(alloc, text.as_str())?, rest)),
+            Some((text, behind)) => Ok((Text::from_str(alloc, text.as_str())?, behind)),
             None => Err(ParseFault::NotExpr),
         }
     }
@@ -44,7 +44,7 @@ fn label_list(
         return Err(ParseFault::NotExpr);
     }
     match open(words) {
-        Some(rest) => comma_list(alloc, rest),
+        Some(behind) => comma_list(alloc, behind),
         None => Err(ParseFault::NotExpr),
     }
 }
@@ -59,8 +59,8 @@ fn side_behind(
     ensures { Gives (λ x. (x.0, x.1.now)) result (reading.side_behind room left words.now) }
 {
     if begins_open(words) {
-        let (include, rest) = label_list(alloc, room, words)?;
-        Ok((Some(Side { left, include }), rest))
+        let (include, behind) = label_list(alloc, room, words)?;
+        Ok((Some(Side { left, include }), behind))
     } else {
         let include = List::new(alloc);
         Ok((Some(Side { left, include }), words))
@@ -73,7 +73,7 @@ fn side(alloc: Global, room: usize, words: &[Word]) -> Result<(Option<Side>, &[W
     ensures { Gives (λ x. (x.0, x.1.now)) result (reading.side room words.now) }
 {
     match side_word(words) {
-        Some((left, rest)) => side_behind(alloc, room, left, rest),
+        Some((left, behind)) => side_behind(alloc, room, left, behind),
         None => Ok((None, words)),
     }
 }
@@ -88,9 +88,9 @@ fn matching_behind(
     ensures { Gives (λ x. (x.0, x.1.now)) result
         (reading.matching_at room words.now (Some (on, words.now))) }
 {
-    let (labels, rest) = label_list(alloc, room, words)?;
-    let (side, rest) = side(alloc, room, rest)?;
-    Ok((Some(Matching { on, labels, side }), rest))
+    let (labels, behind) = label_list(alloc, room, words)?;
+    let (side, behind) = side(alloc, room, behind)?;
+    Ok((Some(Matching { on, labels, side }), behind))
 }
 
 /// `on` or `ignoring` with its labels and a `group_` clause or none, or nothing.
@@ -103,7 +103,7 @@ pub(crate) fn matching(
     ensures { Gives (λ x. (x.0, x.1.now)) result (reading.matching room words.now) }
 {
     match matching_word(words) {
-        Some((on, rest)) => matching_behind(alloc, room, on, rest),
+        Some((on, behind)) => matching_behind(alloc, room, on, behind),
         None => Ok((None, words)),
     }
 }
@@ -117,7 +117,7 @@ pub(crate) fn boolean(comparison: bool, words: &[Word]) -> (bool, &[Word])
         return (false, words);
     }
     match bool_word(words) {
-        Some(rest) => (true, rest),
+        Some(behind) => (true, behind),
         None => (false, words),
     }
 }
@@ -132,9 +132,9 @@ pub(crate) fn grouping(
     ensures { Gives (λ x. (x.0, x.1.now)) result (reading.grouping room words.now) }
 {
     match grouping_word(words) {
-        Some((by, rest)) => {
-            let (labels, rest) = label_list(alloc, room, rest)?;
-            Ok((Some(Grouping { by, labels }), rest))
+        Some((by, behind)) => {
+            let (labels, behind) = label_list(alloc, room, behind)?;
+            Ok((Some(Grouping { by, labels }), behind))
         }
         None => Ok((None, words)),
     }

@@ -4,6 +4,7 @@ ghost use Rattle.ql_tree.specs.Operators as operators;
 ghost use Rattle.ql_tree.specs.declared.word.Keyword.TheVariants as keyword;
 ghost use Rattle.ql_tree.specs.declared.word.Word.TheVariants as word;
 ghost use Rattle.ql_parse.specs.Climbing as climbing;
+ghost use Rattle.ql_parse.specs.Climbing.{IsDepth};
 ghost use Rattle.ql_parse.specs.Gives.{Gives};
 ghost use Rattle.ql_parse.specs.ReadClauses as clauses;
 ghost use Rattle.ql_parse.specs.Reading as reading;
@@ -13,7 +14,7 @@ use crate::endings::{alone, both, closed, grouped};
 use crate::fault::ParseFault;
 use crate::fronts::{Next, behind_item, close, comma, open, sign};
 use crate::nodes::{binary, called, discard, number, select, string, unary};
-use crate::operators::{is_comparison, operator};
+use crate::operators::operator;
 use op_base::{List, Text};
 use ql_tree::{AggregateOp, BinaryOp, Expr, Keyword, Word};
 use std::alloc::Global;
@@ -23,15 +24,15 @@ pub(crate) fn read(alloc: Global, words: &[Word]) -> Result<Expr, ParseFault>
     ensures { Gives (λ e. e) result (reading.read words.now) }
 {
     match within(alloc, 401, 200, words) {
-        Ok((expr, _, rest)) => whole(expr, rest),
+        Ok((expr, _, behind)) => whole(expr, behind),
         Err(fault) => Err(fault),
     }
 }
 
-fn whole(expr: Expr, rest: &[Word]) -> Result<Expr, ParseFault>
-    ensures { Gives (λ e. e) result (reading.whole (Some (expr, rest.now))) }
+fn whole(expr: Expr, behind: &[Word]) -> Result<Expr, ParseFault>
+    ensures { Gives (λ e. e) result (reading.whole (Some (expr, behind.now))) }
 {
-    match rest {
+    match behind {
         [] => Ok(expr),
         [_word, _more @ ..] => {
             discard(expr);
@@ -50,8 +51,7 @@ fn within(
     words: &[Word],
 ) -> Result<(Expr, u8, &[Word]), ParseFault>
     ensures read { Gives (λ x. (x.0, x.2.now)) result (reading.within room limit words.now) }
-    ensures depth { IfOk result (λ x. x.1 ≡ depth_of x.0) }
-    ensures fits { IfOk result (λ x. x.1 ≤ limit) }
+    ensures depth { IfOk result (λ x. IsDepth limit x.0 x.1) }
 {
     if room == 0 {
         return Err(ParseFault::NotExpr);
@@ -72,24 +72,23 @@ fn level(
     requires top { top ≤ 5 }
     ensures read { Gives (λ x. (x.0, x.2.now)) result
         (climbing.operand top room limit words.now) }
-    ensures depth { IfOk result (λ x. x.1 ≡ depth_of x.0) }
-    ensures fits { IfOk result (λ x. x.1 ≤ limit) }
+    ensures depth { IfOk result (λ x. IsDepth limit x.0 x.1) }
 {
     match signed(alloc, room, limit, words) {
         Err(fault) => Err(fault),
-        Ok((expr, depth, behind)) => {
+        Ok((expr, depth, after)) => {
             let mut found = (expr, depth);
-            let mut rest = behind;
+            let mut behind = after;
             for k in 0..top {
-                match chain(alloc, k, room, limit, found, rest) {
+                match chain(alloc, k, room, limit, found, behind) {
                     Ok((expr, depth, next)) => {
                         found = (expr, depth);
-                        rest = next;
+                        behind = next;
                     }
                     Err(fault) => return Err(fault),
                 }
             }
-            Ok((found.0, found.1, rest))
+            Ok((found.0, found.1, behind))
         }
     }
 }
@@ -105,28 +104,26 @@ fn chain<'a>(
     words: &'a [Word],
 ) -> Result<(Expr, u8, &'a [Word]), ParseFault>
     requires below { below < 5 }
-    requires depth { left.1 ≡ depth_of left.0 }
-    requires fits { left.1 ≤ limit }
+    requires left { IsDepth limit left.0 left.1 }
     ensures read { Gives (λ x. (x.0, x.2.now)) result
         (climbing.chained below room limit (length words.now) left.0 words.now) }
-    ensures depth { IfOk result (λ x. x.1 ≡ depth_of x.0) }
-    ensures fits { IfOk result (λ x. x.1 ≤ limit) }
+    ensures depth { IfOk result (λ x. IsDepth limit x.0 x.1) }
 {
     let mut found = left;
-    let mut rest = words;
+    let mut behind = words;
     for step in 0..words.len() {
-        match operator(below + 1, rest) {
-            None => return Ok((found.0, found.1, rest)),
-            Some((op, behind)) => match right(alloc, below, room, limit, found, op, behind) {
+        match operator(below + 1, behind) {
+            None => return Ok((found.0, found.1, behind)),
+            Some((op, operand)) => match right(alloc, below, room, limit, found, op, operand) {
                 Ok((expr, depth, next)) => {
                     found = (expr, depth);
-                    rest = next;
+                    behind = next;
                 }
                 Err(fault) => return Err(fault),
             },
         }
     }
-    Ok((found.0, found.1, rest))
+    Ok((found.0, found.1, behind))
 }
 
 /// What stands behind a binary operator, and the tree of both sides.
@@ -141,20 +138,19 @@ fn right<'a>(
     words: &'a [Word],
 ) -> Result<(Expr, u8, &'a [Word]), ParseFault>
     requires below { below < 5 }
-    requires depth { left.1 ≡ depth_of left.0 }
+    requires left { IsDepth limit left.0 left.1 }
     ensures read { Gives (λ x. (x.0, x.2.now)) result
         (reading.right room limit (climbing.operand below room limit) left.0 op
         (clauses.boolean (operators.is_comparison op) words.now)) }
-    ensures depth { IfOk result (λ x. x.1 ≡ depth_of x.0) }
-    ensures fits { IfOk result (λ x. x.1 ≤ limit) }
+    ensures depth { IfOk result (λ x. IsDepth limit x.0 x.1) }
 {
-    let (boolean, rest) = boolean(is_comparison(op), words);
+    let (boolean, behind) = boolean(op.is_comparison(), words);
     let (left, own) = left;
-    match matching(alloc, room, rest) {
-        Ok((matching, rest)) => match level(alloc, below, room, limit, rest) {
-            Ok((of, depth, rest)) => {
+    match matching(alloc, room, behind) {
+        Ok((matching, behind)) => match level(alloc, below, room, limit, behind) {
+            Ok((of, depth, behind)) => {
                 let (left, of) = ((left, own), (of, depth));
-                binary(alloc, limit, op, boolean, matching, left, of, rest)
+                binary(alloc, limit, op, boolean, matching, left, of, behind)
             }
             Err(fault) => {
                 discard(left);
@@ -178,18 +174,17 @@ fn signed(
 ) -> Result<(Expr, u8, &[Word]), ParseFault>
     ensures read { Gives (λ x. (x.0, x.2.now)) result
         (climbing.operand 0 room limit words.now) }
-    ensures depth { IfOk result (λ x. x.1 ≡ depth_of x.0) }
-    ensures fits { IfOk result (λ x. x.1 ≤ limit) }
+    ensures depth { IfOk result (λ x. IsDepth limit x.0 x.1) }
 {
     if limit == 0 {
         return Err(ParseFault::NotExpr);
     }
     match sign(words) {
         None => atom(alloc, room, limit, words),
-        Some((minus, rest)) => match signed(alloc, room, limit - 1, rest) {
-            Ok((of, depth, rest)) => {
+        Some((minus, behind)) => match signed(alloc, room, limit - 1, behind) {
+            Ok((of, depth, behind)) => {
                 let (expr, depth) = unary(alloc, minus, of, depth)?;
-                Ok((expr, depth, rest))
+                Ok((expr, depth, behind))
             }
             Err(fault) => Err(fault),
         },
@@ -207,25 +202,24 @@ fn atom(
 ) -> Result<(Expr, u8, &[Word]), ParseFault>
     requires least { 0 < limit }
     ensures read { Gives (λ x. (x.0, x.2.now)) result (climbing.atom_in room limit words.now) }
-    ensures depth { IfOk result (λ x. x.1 ≡ depth_of x.0) }
-    ensures fits { IfOk result (λ x. x.1 ≤ limit) }
+    ensures depth { IfOk result (λ x. IsDepth limit x.0 x.1) }
 {
     match words {
-        [Word::Number(n), rest @ ..] => {
+        [Word::Number(n), behind @ ..] => {
             let (expr, depth) = number(*n);
-            Ok((expr, depth, rest))
+            Ok((expr, depth, behind))
         }
-        [Word::Quoted(text), rest @ ..] => {
+        [Word::Quoted(text), behind @ ..] => {
             let (expr, depth) = string(alloc, text)?;
-            Ok((expr, depth, rest))
+            Ok((expr, depth, behind))
         }
-        [Word::Open, rest @ ..] => bracketed(alloc, room, limit, rest),
-        [Word::OpenBrace, _rest @ ..] => select(alloc, words),
-        [Word::Name(Keyword::Plain, text), rest @ ..] => {
-            named(alloc, room, limit, text, words, rest)
+        [Word::Open, behind @ ..] => bracketed(alloc, room, limit, behind),
+        [Word::OpenBrace, _behind @ ..] => select(alloc, words),
+        [Word::Name(Keyword::Unreserved, text), behind @ ..] => {
+            named(alloc, room, limit, text, words, behind)
         }
-        [Word::Name(Keyword::Aggregate(op), _), rest @ ..] => {
-            aggregate(alloc, room, limit, *op, rest)
+        [Word::Name(Keyword::Aggregate(op), _), behind @ ..] => {
+            aggregate(alloc, room, limit, *op, behind)
         }
         _ => Err(ParseFault::NotExpr),
     }
@@ -240,11 +234,10 @@ fn bracketed(
     words: &[Word],
 ) -> Result<(Expr, u8, &[Word]), ParseFault>
     ensures read { Gives (λ x. (x.0, x.2.now)) result (climbing.bracketed room limit words.now) }
-    ensures depth { IfOk result (λ x. x.1 ≡ depth_of x.0) }
-    ensures fits { IfOk result (λ x. x.1 ≤ limit) }
+    ensures depth { IfOk result (λ x. IsDepth limit x.0 x.1) }
 {
     match within(alloc, room, limit, words) {
-        Ok((expr, depth, rest)) => closed(expr, depth, rest),
+        Ok((expr, depth, behind)) => closed(expr, depth, behind),
         Err(fault) => Err(fault),
     }
 }
@@ -257,17 +250,16 @@ fn named<'a>(
     limit: u8,
     name: &Text,
     words: &'a [Word],
-    rest: &'a [Word],
+    behind: &'a [Word],
 ) -> Result<(Expr, u8, &'a [Word]), ParseFault>
     requires least { 0 < limit }
-    requires words { words.now ≡ word.Name keyword.Plain name.now ∷ rest.now }
+    requires words { words.now ≡ word.Name keyword.Unreserved name.now ∷ behind.now }
     ensures read { Gives (λ x. (x.0, x.2.now)) result
-        (climbing.name_in room limit name.now rest.now) }
-    ensures depth { IfOk result (λ x. x.1 ≡ depth_of x.0) }
-    ensures fits { IfOk result (λ x. x.1 ≤ limit) }
+        (climbing.name_in room limit name.now behind.now) }
+    ensures depth { IfOk result (λ x. IsDepth limit x.0 x.1) }
 {
-    match open(rest) {
-        Some(behind) => call(alloc, room, limit, name, behind),
+    match open(behind) {
+        Some(inside) => call(alloc, room, limit, name, inside),
         None => select(alloc, words),
     }
 }
@@ -284,14 +276,13 @@ fn call<'a>(
 ) -> Result<(Expr, u8, &'a [Word]), ParseFault>
     ensures read { Gives (λ x. (x.0, x.2.now)) result
         (climbing.call_of room limit function.now words.now) }
-    ensures depth { IfOk result (λ x. x.1 ≡ depth_of x.0) }
-    ensures fits { IfOk result (λ x. x.1 ≤ limit) }
+    ensures depth { IfOk result (λ x. IsDepth limit x.0 x.1) }
 {
     if room == 0 {
         return Err(ParseFault::NotExpr);
     }
-    let (args, depth, rest) = arguments(alloc, room, limit, words)?;
-    called(alloc, limit, function, (args, depth), rest)
+    let (args, depth, behind) = arguments(alloc, room, limit, words)?;
+    called(alloc, limit, function, (args, depth), behind)
 }
 
 /// A call's arguments, or none, and the bracket that closes them; with the greatest depth.
@@ -308,19 +299,19 @@ fn arguments(
 {
     let mut args = List::new(alloc);
     match close(words) {
-        Some(rest) => return Ok((args, 0, rest)),
+        Some(behind) => return Ok((args, 0, behind)),
         None => {}
     }
     let mut depth: u8 = 0;
-    let mut rest = words;
+    let mut behind = words;
     for step in 0..words.len() {
-        match within(alloc, room, limit, rest) {
-            Ok((expr, own, behind)) => {
+        match within(alloc, room, limit, behind) {
+            Ok((expr, own, after)) => {
                 args.push(expr)?;
                 depth = depth.max(own);
-                match behind_item(close(behind), behind) {
+                match behind_item(close(after), after) {
                     Next::End(end) => return Ok((args, depth, end)),
-                    Next::More(next) => rest = next,
+                    Next::More(next) => behind = next,
                     Next::Broken => return Err(ParseFault::NotExpr),
                 }
             }
@@ -342,15 +333,14 @@ fn aggregate(
 ) -> Result<(Expr, u8, &[Word]), ParseFault>
     ensures read { Gives (λ x. (x.0, x.2.now)) result
         (climbing.aggregate_in room limit op words.now) }
-    ensures depth { IfOk result (λ x. x.1 ≡ depth_of x.0) }
-    ensures fits { IfOk result (λ x. x.1 ≤ limit) }
+    ensures depth { IfOk result (λ x. IsDepth limit x.0 x.1) }
 {
-    let (before, rest) = grouping(alloc, room, words)?;
-    match open(rest) {
+    let (before, behind) = grouping(alloc, room, words)?;
+    match open(behind) {
         None => Err(ParseFault::NotExpr),
-        Some(rest) => {
-            let (operands, rest) = operands(alloc, room, limit, rest)?;
-            grouped(alloc, room, limit, op, before, operands, rest)
+        Some(behind) => {
+            let (operands, behind) = operands(alloc, room, limit, behind)?;
+            grouped(alloc, room, limit, op, before, operands, behind)
         }
     }
 }
@@ -370,9 +360,9 @@ fn operands(
         (λ x. x.0.2 ≡ max (greatest (map depth_of x.0.0)) (depth_of x.0.1)) }
 {
     match within(alloc, room, limit, words) {
-        Ok((first, depth, rest)) => match comma(rest) {
-            None => alone(alloc, first, depth, rest),
-            Some(behind) => match bracketed(alloc, room, limit, behind) {
+        Ok((first, depth, behind)) => match comma(behind) {
+            None => alone(alloc, first, depth, behind),
+            Some(second) => match bracketed(alloc, room, limit, second) {
                 Ok((of, own, end)) => both(alloc, first, of, depth.max(own), end),
                 Err(fault) => {
                     discard(first);

@@ -1,7 +1,8 @@
 // What stands behind trees that were read: the bracket that closes, and the clause of an aggregate.
-ghost use Rattle.std.specs.Prelude.{◌≡◌, ◌≤◌, ◌∷◌, [], max, map, IfOk};
+ghost use Rattle.std.specs.Prelude.{◌≡◌, ℕ, ◌∷◌, max, map, IfOk};
 ghost use Rattle.ql_tree.specs.Children.{depth_of, greatest};
 ghost use Rattle.ql_parse.specs.Climbing as climbing;
+ghost use Rattle.ql_parse.specs.Climbing.{IsDepth};
 ghost use Rattle.ql_parse.specs.Gives.{Gives};
 ghost use Rattle.ql_parse.specs.ReadTerms as terms;
 
@@ -19,13 +20,11 @@ pub(crate) fn closed(
     depth: u8,
     words: &[Word],
 ) -> Result<(Expr, u8, &[Word]), ParseFault>
-    requires { depth ≡ depth_of expr }
     ensures read { Gives (λ x. (x.0, x.2.now)) result (terms.closed expr words.now) }
-    ensures depth { IfOk result (λ x. x.1 ≡ depth_of x.0) }
-    ensures same { IfOk result (λ x. x.1 ≡ depth) }
+    ensures depth { (limit : ℕ) → IsDepth limit expr depth → IfOk result (λ x. IsDepth limit x.0 x.1) }
 {
     match close(words) {
-        Some(rest) => Ok((expr, depth, rest)),
+        Some(behind) => Ok((expr, depth, behind)),
         None => {
             discard(expr);
             Err(ParseFault::NotExpr)
@@ -47,7 +46,7 @@ pub(crate) fn alone(
         (λ x. x.0.2 ≡ max (greatest (map depth_of x.0.0)) (depth_of x.0.1)) }
 {
     match close(words) {
-        Some(rest) => Ok(((List::new(alloc), of, depth), rest)),
+        Some(behind) => Ok(((List::new(alloc), of, depth), behind)),
         None => {
             discard(of);
             Err(ParseFault::NotExpr)
@@ -91,12 +90,11 @@ pub(crate) fn grouped<'a>(
     requires { operands.2 ≡ max (greatest (map depth_of operands.0)) (depth_of operands.1) }
     ensures read { Gives (λ x. (x.0, x.2.now)) result
         (climbing.grouped_in room limit op (operands.0, operands.1) before words.now) }
-    ensures depth { IfOk result (λ x. x.1 ≡ depth_of x.0) }
-    ensures fits { IfOk result (λ x. x.1 ≤ limit) }
+    ensures depth { IfOk result (λ x. IsDepth limit x.0 x.1) }
 {
     let (param, of, depth) = operands;
     match grouping_behind(alloc, room, before, words) {
-        Ok((grouping, rest)) => { aggregated(alloc, limit, op, grouping, (param, of, depth), rest) }
+        Ok((grouping, behind)) => { aggregated(alloc, limit, op, grouping, (param, of, depth), behind) }
         Err(fault) => {
             discard(of);
             Err(fault)

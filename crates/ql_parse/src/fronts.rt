@@ -1,6 +1,7 @@
 ghost use Rattle.std.specs.Prelude.{◌≡◌};
 ghost use Rattle.std.specs.Option.{option_map};
-ghost use Rattle.ql_tree.specs.Operators.{sign_of, matching_of, side_of, grouping_of};
+ghost use Rattle.ql_tree.specs.ClauseWords.{matching_of, side_of, grouping_of};
+ghost use Rattle.ql_tree.specs.Operators.{sign_of};
 ghost use Rattle.ql_tree.specs.Selecting.{match_of};
 ghost use Rattle.ql_tree.specs.Spells as spells;
 ghost use Rattle.ql_tree.specs.declared.word.Keyword.TheVariants as keyword;
@@ -14,91 +15,91 @@ use ql_tree::{Keyword, Word};
 
 /// The words behind `(`, where it is the first.
 pub(crate) fn open(words: &[Word]) -> Option<&[Word]>
-    ensures { option_map (λ rest. rest.now) result ≡ spec.beyond word.Open words.now }
+    ensures { option_map (λ behind. behind.now) result ≡ spec.beyond word.Open words.now }
 {
     match words {
-        [Word::Open, rest @ ..] => Some(rest),
+        [Word::Open, behind @ ..] => Some(behind),
         _ => None,
     }
 }
 
 pub(crate) fn close(words: &[Word]) -> Option<&[Word]>
-    ensures { option_map (λ rest. rest.now) result ≡ spec.beyond word.Close words.now }
+    ensures { option_map (λ behind. behind.now) result ≡ spec.beyond word.Close words.now }
 {
     match words {
-        [Word::Close, rest @ ..] => Some(rest),
+        [Word::Close, behind @ ..] => Some(behind),
         _ => None,
     }
 }
 
 pub(crate) fn comma(words: &[Word]) -> Option<&[Word]>
-    ensures { option_map (λ rest. rest.now) result ≡ spec.beyond word.Comma words.now }
+    ensures { option_map (λ behind. behind.now) result ≡ spec.beyond word.Comma words.now }
 {
     match words {
-        [Word::Comma, rest @ ..] => Some(rest),
+        [Word::Comma, behind @ ..] => Some(behind),
         _ => None,
     }
 }
 
 pub(crate) fn open_brace(words: &[Word]) -> Option<&[Word]>
-    ensures { option_map (λ rest. rest.now) result ≡ spec.beyond word.OpenBrace words.now }
+    ensures { option_map (λ behind. behind.now) result ≡ spec.beyond word.OpenBrace words.now }
 {
     match words {
-        [Word::OpenBrace, rest @ ..] => Some(rest),
+        [Word::OpenBrace, behind @ ..] => Some(behind),
         _ => None,
     }
 }
 
 pub(crate) fn close_brace(words: &[Word]) -> Option<&[Word]>
-    ensures { option_map (λ rest. rest.now) result ≡ spec.beyond word.CloseBrace words.now }
+    ensures { option_map (λ behind. behind.now) result ≡ spec.beyond word.CloseBrace words.now }
 {
     match words {
-        [Word::CloseBrace, rest @ ..] => Some(rest),
+        [Word::CloseBrace, behind @ ..] => Some(behind),
         _ => None,
     }
 }
 
 pub(crate) fn open_square(words: &[Word]) -> Option<&[Word]>
-    ensures { option_map (λ rest. rest.now) result ≡ spec.beyond word.OpenSquare words.now }
+    ensures { option_map (λ behind. behind.now) result ≡ spec.beyond word.OpenSquare words.now }
 {
     match words {
-        [Word::OpenSquare, rest @ ..] => Some(rest),
+        [Word::OpenSquare, behind @ ..] => Some(behind),
         _ => None,
     }
 }
 
 pub(crate) fn close_square(words: &[Word]) -> Option<&[Word]>
-    ensures { option_map (λ rest. rest.now) result ≡ spec.beyond word.CloseSquare words.now }
+    ensures { option_map (λ behind. behind.now) result ≡ spec.beyond word.CloseSquare words.now }
 {
     match words {
-        [Word::CloseSquare, rest @ ..] => Some(rest),
+        [Word::CloseSquare, behind @ ..] => Some(behind),
         _ => None,
     }
 }
 
 pub(crate) fn minus(words: &[Word]) -> Option<&[Word]>
-    ensures { option_map (λ rest. rest.now) result ≡ spec.beyond word.Minus words.now }
+    ensures { option_map (λ behind. behind.now) result ≡ spec.beyond word.Minus words.now }
 {
     match words {
-        [Word::Minus, rest @ ..] => Some(rest),
+        [Word::Minus, behind @ ..] => Some(behind),
         _ => None,
     }
 }
 
 pub(crate) fn offset_word(words: &[Word]) -> Option<&[Word]>
-    ensures { option_map (λ rest. rest.now) result ≡ spec.beyond_keyword keyword.Offset words.now }
+    ensures { option_map (λ behind. behind.now) result ≡ spec.beyond_keyword keyword.Offset words.now }
 {
     match words {
-        [Word::Name(Keyword::Offset, _), rest @ ..] => Some(rest),
+        [Word::Name(Keyword::Offset, _), behind @ ..] => Some(behind),
         _ => None,
     }
 }
 
 pub(crate) fn bool_word(words: &[Word]) -> Option<&[Word]>
-    ensures { option_map (λ rest. rest.now) result ≡ spec.beyond_keyword keyword.Bool words.now }
+    ensures { option_map (λ behind. behind.now) result ≡ spec.beyond_keyword keyword.Bool words.now }
 {
     match words {
-        [Word::Name(Keyword::Bool, _), rest @ ..] => Some(rest),
+        [Word::Name(Keyword::Bool, _), behind @ ..] => Some(behind),
         _ => None,
     }
 }
@@ -108,9 +109,9 @@ pub(crate) fn label(words: &[Word]) -> Option<(&Text, &[Word])>
     ensures { option_map (λ x. (x.0.now, x.1.now)) result ≡ found.first spec.label_of words.now }
 {
     match words {
-        [Word::Name(_, text), rest @ ..] => {
+        [Word::Name(_, text), behind @ ..] => {
             if is_label_name(text.as_str()) {
-                Some((text, rest))
+                Some((text, behind))
             } else {
                 None
             }
@@ -120,11 +121,11 @@ pub(crate) fn label(words: &[Word]) -> Option<(&Text, &[Word])>
 }
 
 /// The name that the first word is, where it isn't reserved.
-pub(crate) fn plain(words: &[Word]) -> Option<(&Text, &[Word])>
-    ensures { option_map (λ x. (x.0.now, x.1.now)) result ≡ found.first spec.plain_of words.now }
+pub(crate) fn unreserved(words: &[Word]) -> Option<(&Text, &[Word])>
+    ensures { option_map (λ x. (x.0.now, x.1.now)) result ≡ found.first spec.unreserved_of words.now }
 {
     match words {
-        [Word::Name(Keyword::Plain, text), rest @ ..] => Some((text, rest)),
+        [Word::Name(Keyword::Unreserved, text), behind @ ..] => Some((text, behind)),
         _ => None,
     }
 }
@@ -133,7 +134,7 @@ pub(crate) fn quoted(words: &[Word]) -> Option<(&Text, &[Word])>
     ensures { option_map (λ x. (x.0.now, x.1.now)) result ≡ found.first spec.quoted_of words.now }
 {
     match words {
-        [Word::Quoted(text), rest @ ..] => Some((text, rest)),
+        [Word::Quoted(text), behind @ ..] => Some((text, behind)),
         _ => None,
     }
 }
@@ -142,7 +143,7 @@ pub(crate) fn duration(words: &[Word]) -> Option<(Span, &[Word])>
     ensures { option_map (λ x. (x.0, x.1.now)) result ≡ found.first spec.length_of words.now }
 {
     match words {
-        [Word::Duration(span), rest @ ..] => Some((*span, rest)),
+        [Word::Duration(span), behind @ ..] => Some((*span, behind)),
         _ => None,
     }
 }
@@ -153,10 +154,10 @@ pub(crate) fn match_op(words: &[Word]) -> Option<(MatchOp, &[Word])>
     ensures { option_map (λ x. (x.0, x.1.now)) result ≡ found.first match_of words.now }
 {
     match words {
-        [Word::Assign, rest @ ..] => Some((MatchOp::Eq, rest)),
-        [Word::NotEqual, rest @ ..] => Some((MatchOp::Ne, rest)),
-        [Word::Match, rest @ ..] => Some((MatchOp::Re, rest)),
-        [Word::NotMatch, rest @ ..] => Some((MatchOp::Nr, rest)),
+        [Word::Assign, behind @ ..] => Some((MatchOp::Eq, behind)),
+        [Word::NotEqual, behind @ ..] => Some((MatchOp::Ne, behind)),
+        [Word::Match, behind @ ..] => Some((MatchOp::Re, behind)),
+        [Word::NotMatch, behind @ ..] => Some((MatchOp::Nr, behind)),
         _ => None,
     }
 }
@@ -167,44 +168,44 @@ pub(crate) fn sign(words: &[Word]) -> Option<(bool, &[Word])>
     ensures { option_map (λ x. (x.0, x.1.now)) result ≡ found.first sign_of words.now }
 {
     match words {
-        [Word::Minus, rest @ ..] => Some((true, rest)),
-        [Word::Plus, rest @ ..] => Some((false, rest)),
+        [Word::Minus, behind @ ..] => Some((true, behind)),
+        [Word::Plus, behind @ ..] => Some((false, behind)),
         _ => None,
     }
 }
 
 /// True for `on`, false for `ignoring`.
-#[tactic(auto, unfolding(ql_tree::specs::Operators::matching_of))]
+#[tactic(auto, unfolding(ql_tree::specs::ClauseWords::matching_of))]
 pub(crate) fn matching_word(words: &[Word]) -> Option<(bool, &[Word])>
     ensures { option_map (λ x. (x.0, x.1.now)) result ≡ found.first matching_of words.now }
 {
     match words {
-        [Word::Name(Keyword::On, _), rest @ ..] => Some((true, rest)),
-        [Word::Name(Keyword::Ignoring, _), rest @ ..] => Some((false, rest)),
+        [Word::Name(Keyword::On, _), behind @ ..] => Some((true, behind)),
+        [Word::Name(Keyword::Ignoring, _), behind @ ..] => Some((false, behind)),
         _ => None,
     }
 }
 
 /// True for `group_left`, false for `group_right`.
-#[tactic(auto, unfolding(ql_tree::specs::Operators::side_of))]
+#[tactic(auto, unfolding(ql_tree::specs::ClauseWords::side_of))]
 pub(crate) fn side_word(words: &[Word]) -> Option<(bool, &[Word])>
     ensures { option_map (λ x. (x.0, x.1.now)) result ≡ found.first side_of words.now }
 {
     match words {
-        [Word::Name(Keyword::GroupLeft, _), rest @ ..] => Some((true, rest)),
-        [Word::Name(Keyword::GroupRight, _), rest @ ..] => Some((false, rest)),
+        [Word::Name(Keyword::GroupLeft, _), behind @ ..] => Some((true, behind)),
+        [Word::Name(Keyword::GroupRight, _), behind @ ..] => Some((false, behind)),
         _ => None,
     }
 }
 
 /// True for `by`, false for `without`.
-#[tactic(auto, unfolding(ql_tree::specs::Operators::grouping_of))]
+#[tactic(auto, unfolding(ql_tree::specs::ClauseWords::grouping_of))]
 pub(crate) fn grouping_word(words: &[Word]) -> Option<(bool, &[Word])>
     ensures { option_map (λ x. (x.0, x.1.now)) result ≡ found.first grouping_of words.now }
 {
     match words {
-        [Word::Name(Keyword::By, _), rest @ ..] => Some((true, rest)),
-        [Word::Name(Keyword::Without, _), rest @ ..] => Some((false, rest)),
+        [Word::Name(Keyword::By, _), behind @ ..] => Some((true, behind)),
+        [Word::Name(Keyword::Without, _), behind @ ..] => Some((false, behind)),
         _ => None,
     }
 }
@@ -214,7 +215,7 @@ pub(crate) fn begins_open(words: &[Word]) -> bool
     ensures { result ≡ spells.begins_open words.now }
 {
     match words {
-        [Word::Open, _rest @ ..] => true,
+        [Word::Open, _behind @ ..] => true,
         _ => false,
     }
 }
@@ -228,13 +229,13 @@ pub(crate) enum Next<'a> {
 
 /// What follows an item, by the words behind the one that closes the list, if it stands there.
 pub(crate) fn behind_item<'a>(closed: Option<&'a [Word]>, words: &'a [Word]) -> Next<'a>
-    ensures { IsNext (option_map (λ rest. rest.now) closed.entry) words.now result }
+    ensures { IsNext (option_map (λ behind. behind.now) closed.entry) words.now result }
 {
-    if let Some(rest) = closed {
-        return Next::End(rest);
+    if let Some(behind) = closed {
+        return Next::End(behind);
     }
     match comma(words) {
-        Some(rest) => Next::More(rest),
+        Some(behind) => Next::More(behind),
         None => Next::Broken,
     }
 }

@@ -36,7 +36,7 @@ pub(crate) fn keyword_of(text: &str) -> Keyword
     if is_reserved(text) {
         found_in(text, &KEYWORDS).unwrap_or(Keyword::Unused)
     } else {
-        Keyword::Plain
+        Keyword::Unreserved
     }
 }
 

@@ -22,7 +22,7 @@ pub(crate) trait Item: Drop {
 
     /// The words behind the one that closes the list, where it is the first.
     fn close(words: &[Word]) -> Option<&[Word]>
-        ensures { option_map (λ rest. rest.now) result ≡ beyond closing words.now };
+        ensures { option_map (λ behind. behind.now) result ≡ beyond closing words.now };
 
     /// The item that stands in front, and the words behind it.
     fn read(alloc: Global, words: &[Word]) -> Result<(Self, &[Word]), ParseFault>
@@ -39,18 +39,18 @@ pub(crate) fn comma_list<T: Item>(
         (lists.comma_list T.closing T.reading (length words.now) words.now) }
 {
     let mut found = List::new(alloc);
-    let mut rest = words;
+    let mut behind = words;
     for step in 0..words.len() {
-        match T::close(rest) {
+        match T::close(behind) {
             Some(end) => return Ok((found, end)),
             None => {}
         }
-        match T::read(alloc, rest) {
-            Ok((one, behind)) => {
+        match T::read(alloc, behind) {
+            Ok((one, after)) => {
                 found.push(one)?;
-                match behind_item(T::close(behind), behind) {
+                match behind_item(T::close(after), after) {
                     Next::End(end) => return Ok((found, end)),
-                    Next::More(next) => rest = next,
+                    Next::More(next) => behind = next,
                     Next::Broken => return Err(ParseFault::NotExpr),
                 }
             }

@@ -1,6 +1,7 @@
 ghost use Rattle.std.specs.Prelude.{◌≡◌, ◌≤◌, ◌<◌, ◌+◌, max, [], ◌∷◌, map, IfOk};
 ghost use Rattle.ql_tree.specs.Children.{depth_of, greatest};
 ghost use Rattle.ql_tree.specs.declared.tree.Expr.TheVariants as expr;
+ghost use Rattle.ql_parse.specs.Climbing.{IsDepth};
 ghost use Rattle.ql_parse.specs.Gives.{Gives};
 ghost use Rattle.ql_parse.specs.Found.{fitting};
 ghost use Rattle.ql_parse.specs.ReadSelectors as selectors;
@@ -51,7 +52,7 @@ pub(crate) fn select(alloc: Global, words: &[Word]) -> Result<(Expr, u8, &[Word]
     ensures least { IfOk result (λ x. x.1 ≡ 1) }
 {
     match selector(alloc, words) {
-        Ok((expr, rest)) => Ok((expr, 1, rest)),
+        Ok((expr, behind)) => Ok((expr, 1, behind)),
         Err(fault) => Err(fault),
     }
 }
@@ -79,14 +80,13 @@ pub(crate) fn binary<'a>(
     matching: Option<Matching>,
     left: (Expr, u8),
     right: (Expr, u8),
-    rest: &'a [Word],
+    behind: &'a [Word],
 ) -> Result<(Expr, u8, &'a [Word]), ParseFault>
     requires left { left.1 ≡ depth_of left.0 }
     requires right { right.1 ≡ depth_of right.0 }
     ensures read { Gives (λ x. (x.0, x.2.now)) result
-        (fitting limit (expr.Binary op boolean matching (left.0 ∷ []) (right.0 ∷ [])) rest.now) }
-    ensures depth { IfOk result (λ x. x.1 ≡ depth_of x.0) }
-    ensures fits { IfOk result (λ x. x.1 ≤ limit) }
+        (fitting limit (expr.Binary op boolean matching (left.0 ∷ []) (right.0 ∷ [])) behind.now) }
+    ensures depth { IfOk result (λ x. IsDepth limit x.0 x.1) }
 {
     let (left, left_depth) = left;
     let (right, right_depth) = right;
@@ -97,7 +97,7 @@ pub(crate) fn binary<'a>(
         return Err(ParseFault::NotExpr);
     }
     let expr = operated(alloc, op, boolean, matching, left, right)?;
-    Ok((expr, depth + 1, rest))
+    Ok((expr, depth + 1, behind))
 }
 
 fn operated(
@@ -140,20 +140,19 @@ pub(crate) fn called<'a>(
     limit: u8,
     function: &Text,
     args: (List<Expr>, u8),
-    rest: &'a [Word],
+    behind: &'a [Word],
 ) -> Result<(Expr, u8, &'a [Word]), ParseFault>
     requires { args.1 ≡ greatest (map depth_of args.0) }
     ensures read { Gives (λ x. (x.0, x.2.now)) result
-        (fitting limit (expr.Call function.now args.0) rest.now) }
-    ensures depth { IfOk result (λ x. x.1 ≡ depth_of x.0) }
-    ensures fits { IfOk result (λ x. x.1 ≤ limit) }
+        (fitting limit (expr.Call function.now args.0) behind.now) }
+    ensures depth { IfOk result (λ x. IsDepth limit x.0 x.1) }
 {
     let (args, depth) = args;
     if depth >= limit {
         return Err(ParseFault::NotExpr);
     }
     let function = Text::from_str(alloc, function.as_str())?;
-    Ok((Expr::Call { function, args }, depth + 1, rest))
+    Ok((Expr::Call { function, args }, depth + 1, behind))
 }
 
 /// An aggregate, where it is no deeper than `limit`.
@@ -164,13 +163,12 @@ pub(crate) fn aggregated<'a>(
     op: AggregateOp,
     grouping: Option<Grouping>,
     operands: (List<Expr>, Expr, u8),
-    rest: &'a [Word],
+    behind: &'a [Word],
 ) -> Result<(Expr, u8, &'a [Word]), ParseFault>
     requires { operands.2 ≡ max (greatest (map depth_of operands.0)) (depth_of operands.1) }
     ensures read { Gives (λ x. (x.0, x.2.now)) result
-        (fitting limit (expr.Aggregate op grouping operands.0 (operands.1 ∷ [])) rest.now) }
-    ensures depth { IfOk result (λ x. x.1 ≡ depth_of x.0) }
-    ensures fits { IfOk result (λ x. x.1 ≤ limit) }
+        (fitting limit (expr.Aggregate op grouping operands.0 (operands.1 ∷ [])) behind.now) }
+    ensures depth { IfOk result (λ x. IsDepth limit x.0 x.1) }
 {
     let (param, of, depth) = operands;
     if depth >= limit {
@@ -178,7 +176,7 @@ pub(crate) fn aggregated<'a>(
         return Err(ParseFault::NotExpr);
     }
     let expr = aggregate(alloc, op, grouping, param, of)?;
-    Ok((expr, depth + 1, rest))
+    Ok((expr, depth + 1, behind))
 }
 
 fn aggregate(

@@ -9,10 +9,10 @@ ghost use Rattle.ql_parse.specs.ReadSelectors as reading;
 use crate::fault::ParseFault;
 use crate::fronts::{
     close_brace, close_square, duration, label, match_op, minus, offset_word, open_brace,
-    open_square, plain, quoted,
+    open_square, quoted, unreserved,
 };
 use crate::lists::{Item, comma_list};
-use op_base::{List, Matcher, Span, Text};
+use op_base::{List, METRIC_NAME, Matcher, Span, Text};
 use ql_tree::{Expr, Word};
 use std::alloc::Global;
 
@@ -21,18 +21,18 @@ use std::alloc::Global;
 fn matcher(alloc: Global, words: &[Word]) -> Result<(Matcher, &[Word]), ParseFault>
     ensures { Gives (λ x. (x.0, x.1.now)) result (reading.matcher words.now) }
 {
-    let Some((name, rest)) = label(words) else {
+    let Some((name, behind)) = label(words) else {
         return Err(ParseFault::NotExpr);
     };
-    let Some((op, rest)) = match_op(rest) else {
+    let Some((op, behind)) = match_op(behind) else {
         return Err(ParseFault::NotExpr);
     };
-    let Some((value, rest)) = quoted(rest) else {
+    let Some((value, behind)) = quoted(behind) else {
         return Err(ParseFault::NotExpr);
     };
     let name = Text::from_str(alloc, name.as_str())?;
     let value = Text::from_str(alloc, value.as_str())?;
-    Ok((Matcher { name, op, value }, rest))
+    Ok((Matcher { name, op, value }, behind))
 }
 
 impl Item for Matcher {
@@ -54,7 +54,7 @@ fn braces(alloc: Global, words: &[Word]) -> Result<(List<Matcher>, &[Word]), Par
     ensures { Gives (λ x. (x.0, x.1.now)) result (reading.braces words.now) }
 {
     match open_brace(words) {
-        Some(rest) => comma_list(alloc, rest),
+        Some(behind) => comma_list(alloc, behind),
         None => Err(ParseFault::NotExpr),
     }
 }
@@ -72,11 +72,11 @@ fn named<'a>(
     if open_brace(words).is_none() {
         return Ok((Some(name), List::new(alloc), words));
     }
-    let (found, rest) = braces(alloc, words)?;
+    let (found, behind) = braces(alloc, words)?;
     if has_name(found.as_slice()) {
         return Err(ParseFault::NotExpr);
     }
-    Ok((Some(name), found, rest))
+    Ok((Some(name), found, behind))
 }
 
 fn has_name(matchers: &[Matcher]) -> bool
@@ -88,7 +88,7 @@ fn has_name(matchers: &[Matcher]) -> bool
 fn is_on_name(m: &Matcher) -> bool
     ensures { result ≡ is_on_name m.now }
 {
-    m.name.as_str() == "__name__"
+    m.name.as_str() == METRIC_NAME
 }
 
 /// A selector's name, if it has one, and its matchers.
@@ -96,11 +96,11 @@ fn is_on_name(m: &Matcher) -> bool
 fn head(alloc: Global, words: &[Word]) -> Result<(Option<Text>, List<Matcher>, &[Word]), ParseFault>
     ensures { Gives (λ x. ((x.0, x.1), x.2.now)) result (reading.head words.now) }
 {
-    match plain(words) {
-        Some((name, rest)) => named(alloc, name, rest),
+    match unreserved(words) {
+        Some((name, behind)) => named(alloc, name, behind),
         None => {
-            let (found, rest) = braces(alloc, words)?;
-            Ok((None, found, rest))
+            let (found, behind) = braces(alloc, words)?;
+            Ok((None, found, behind))
         }
     }
 }
@@ -111,7 +111,7 @@ fn range(words: &[Word]) -> Result<(Option<Span>, &[Word]), ParseFault>
     ensures { Gives (λ x. (x.0, x.1.now)) result (reading.range words.now) }
 {
     match open_square(words) {
-        Some(rest) => range_behind(rest),
+        Some(behind) => range_behind(behind),
         None => Ok((None, words)),
     }
 }
@@ -119,14 +119,14 @@ fn range(words: &[Word]) -> Result<(Option<Span>, &[Word]), ParseFault>
 fn range_behind(words: &[Word]) -> Result<(Option<Span>, &[Word]), ParseFault>
     ensures { Gives (λ x. (x.0, x.1.now)) result (reading.range_at words.now (Some words.now)) }
 {
-    let Some((span, rest)) = duration(words) else {
+    let Some((span, behind)) = duration(words) else {
         return Err(ParseFault::NotExpr);
     };
-    let Some(rest) = close_square(rest) else {
+    let Some(behind) = close_square(behind) else {
         return Err(ParseFault::NotExpr);
     };
     if span.0 > 0 {
-        Ok((Some(span), rest))
+        Ok((Some(span), behind))
     } else {
         Err(ParseFault::NotExpr)
     }
@@ -138,7 +138,7 @@ fn offset(words: &[Word]) -> Result<(Option<Span>, &[Word]), ParseFault>
     ensures { Gives (λ x. (x.0, x.1.now)) result (reading.offset words.now) }
 {
     match offset_word(words) {
-        Some(rest) => offset_behind(rest),
+        Some(behind) => offset_behind(behind),
         None => Ok((None, words)),
     }
 }
@@ -147,9 +147,9 @@ fn offset_behind(words: &[Word]) -> Result<(Option<Span>, &[Word]), ParseFault>
     ensures { Gives (λ x. (x.0, x.1.now)) result (reading.offset_at words.now (Some words.now)) }
 {
     match minus(words) {
-        Some(rest) => ahead(rest),
+        Some(behind) => ahead(behind),
         None => match duration(words) {
-            Some((span, rest)) => Ok((Some(span), rest)),
+            Some((span, behind)) => Ok((Some(span), behind)),
             None => Err(ParseFault::NotExpr),
         },
     }
@@ -160,9 +160,9 @@ fn ahead(words: &[Word]) -> Result<(Option<Span>, &[Word]), ParseFault>
     ensures { Gives (λ x. (x.0, x.1.now)) result (reading.offset_by words.now (Some words.now)) }
 {
     match duration(words) {
-        Some((span, rest)) => {
+        Some((span, behind)) => {
             if span.0 >= 0 {
-                Ok((Some(Span(-span.0)), rest))
+                Ok((Some(Span(-span.0)), behind))
             } else {
                 Err(ParseFault::NotExpr)
             }
@@ -177,9 +177,9 @@ pub(crate) fn selector(alloc: Global, words: &[Word]) -> Result<(Expr, &[Word]),
     ensures read { Gives (λ x. (x.0, x.1.now)) result (reading.selector words.now) }
     ensures depth { IfOk result (λ x. depth_of x.0 ≡ 1) }
 {
-    let (name, matchers, rest) = head(alloc, words)?;
-    let (range, rest) = range(rest)?;
-    let (offset, rest) = offset(rest)?;
+    let (name, matchers, behind) = head(alloc, words)?;
+    let (range, behind) = range(behind)?;
+    let (offset, behind) = offset(behind)?;
     Ok((
         Expr::Select {
             name,
@@ -187,6 +187,6 @@ pub(crate) fn selector(alloc: Global, words: &[Word]) -> Result<(Expr, &[Word]),
             range,
             offset,
         },
-        rest,
+        behind,
     ))
 }

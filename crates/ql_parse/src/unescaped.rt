@@ -15,7 +15,7 @@ pub(crate) fn unescaped(alloc: Global, text: &str) -> Result<Text, NoMemory>
     ensures { IfOk result (λ t. t ≡ spec.string_value text.now) }
 {
     match text.as_bytes() {
-        [quote, rest @ ..] => Ok(text_of(inside(alloc, *quote, rest)?)),
+        [quote, behind @ ..] => Ok(text_of(inside(alloc, *quote, behind)?)),
         [] => Ok(Text::new(alloc)),
     }
 }
@@ -36,18 +36,18 @@ fn inside(alloc: Global, quote: u8, bytes: &[u8]) -> Result<Vec<u8>, NoMemory>
     ensures utf8 { IfOk result (λ text. IsUtf8 text.items) }
 {
     let mut text = Vec::new(alloc);
-    let mut rest = bytes;
+    let mut behind = bytes;
     loop {
-        match next(quote, rest) {
+        match next(quote, behind) {
             Step::Close => return Ok(text),
             Step::Broken => return Ok(Vec::new(alloc)),
             Step::Byte(b) => {
                 text.push(b)?;
-                rest = behind(rest, 1);
+                behind = past(behind, 1);
             }
             Step::Character(c, n) => {
                 push_char(&mut text, c)?;
-                rest = behind(rest, n);
+                behind = past(behind, n);
             }
         }
     }
@@ -61,7 +61,7 @@ fn push_char(text: &mut Vec<u8>, c: char) -> Result<(), NoMemory>
     Ok(())
 }
 
-fn behind(bytes: &[u8], n: usize) -> &[u8]
+fn past(bytes: &[u8], n: usize) -> &[u8]
     requires { n ≤ length bytes.now }
     ensures { result.now ≡ drop n bytes.now }
 {
@@ -81,7 +81,7 @@ fn next(quote: u8, bytes: &[u8]) -> Step
     ensures { IsStep quote bytes.now result }
 {
     match bytes {
-        [b, rest @ ..] => {
+        [b, behind @ ..] => {
             if *b == quote {
                 Step::Close
             } else if quote == b'`' {
@@ -89,7 +89,7 @@ fn next(quote: u8, bytes: &[u8]) -> Step
             } else if *b == b'\n' {
                 Step::Broken
             } else if *b == b'\\' {
-                escaped(quote, rest)
+                escaped(quote, behind)
             } else {
                 Step::Byte(*b)
             }
@@ -99,12 +99,12 @@ fn next(quote: u8, bytes: &[u8]) -> Step
 }
 
 /// The escape behind a backslash, with the backslash.
-fn escaped(quote: u8, rest: &[u8]) -> Step
+fn escaped(quote: u8, behind: &[u8]) -> Step
     requires ascii { quote < 128 }
     requires escapes { (quote ≢ 96) × (quote ≢ 92) }
-    ensures { IsStep quote (92 ∷ rest.now) result }
+    ensures { IsStep quote (92 ∷ behind.now) result }
 {
-    match escape(quote, rest) {
+    match escape(quote, behind) {
         Some((c, n)) => Step::Character(char::from_u32(c).unwrap(), 1 + n),
         None => Step::Broken,
     }

@@ -38,10 +38,6 @@ first_of-none : (ms ns : List Matcher) → None ≡ first_of ms → first_of (ms
 first_of-none [] ns is = refl
 first_of-none (k ∷ ms) ns is = cc
 
-pub no_first : (ms : List Matcher) → None ≡ first_of ms → ms ≡ []
-no_first [] is = refl
-no_first (k ∷ ms) is = cc
-
 whole : (name value : List ℕ) (e : Expr) (node : Expr-F Expr) → out-Expr e ≡ node
     → first_conflict name value e ≡ first_of (filter (conflicts name value) (matchers_step (map-Expr Expr (List Matcher) matchers_of node)))
 whole name value e node is =
@@ -120,13 +116,3 @@ first_child name value es i e m inside is none found =
     all ∙ ap (λ ks. (ks ++ conflicts_below name value (e ∷ [])) ++ conflicts_below name value (drop (i + 1) es)) none
     ∙ ap (λ ks. ks ++ conflicts_below name value (drop (i + 1) es)) single in
     first_of-some (filter (conflicts name value) (matchers_of e)) (conflicts_below name value (drop (i + 1) es)) m found ∙ sym (ap first_of short)
-
-pub next_child : (name value : List ℕ) (es : List Expr) (i : ℕ) (e : Expr) → i < length es → e ≡ get_or es i e
-    → conflicts_below name value (take i es) ≡ [] → None ≡ first_conflict name value e
-    → conflicts_below name value (take (i + 1) es) ≡ []
-next_child name value es i e inside is none passed =
-    let own : filter (conflicts name value) (matchers_of e) ≡ [] = no_first (filter (conflicts name value) (matchers_of e)) passed in
-    ap (conflicts_below name value) (take_more es i e inside ∙ ap (λ f. take i es ++ f ∷ []) (sym is))
-    ∙ conflicts_below-append name value (take i es) (e ∷ [])
-    ∙ ap (λ ks. ks ++ conflicts_below name value (e ∷ [])) none
-    ∙ ap (filter (conflicts name value)) (append-nil (matchers_of e)) ∙ own

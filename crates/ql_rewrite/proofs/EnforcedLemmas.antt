@@ -1,7 +1,8 @@
 -- Enforcement of a label keeps what each kind of node has from its parts, and the depth of the tree.
-use Rattle.std.proofs.Common.{◌≡◌, ℕ, ◌+◌, Bool, true, false, List, [], ◌∷◌, ◌++◌, Option, Some, None, map, cond, not, codes, bytes_eq, ◌||◌, refl, ap, ap₂, sym, subst, ◌∙◌}
+use Rattle.std.proofs.Common.{◌≡◌, ℕ, ◌+◌, Bool, true, false, List, [], ◌∷◌, ◌++◌, Option, Some, None, map, cond, not, bytes_eq, ◌||◌, refl, ap, ap₂, sym, subst, ◌∙◌}
 use Rattle.std.specs.List.{AllByRecursion as Each, filter, list_any}
 use Rattle.op_base.specs.Names.{is_label_name}
+use Rattle.op_base.specs.declared.label_names.TheConstants.{METRIC_NAME}
 use Rattle.op_base.specs.declared.matcher.Matcher.{Matcher}
 use Rattle.ql_tree.specs.Children.{children_of, greatest, depth_of}
 use Rattle.ql_tree.specs.Enforced.{matcher_of, is_on, enforced_matchers, enforce_step, enforced}
@@ -59,7 +60,7 @@ module _ (name value : List ℕ) where
       ∙ ap (λ n. enforce_step name value (map-Expr Expr Expr (enforced name value) n)) is
 
   named_kept : (W : Word → Type 0) (metric : Option (List ℕ)) (ms : List Matcher)
-      → bytes_eq name (codes "__name__") ≡ false
+      → bytes_eq name METRIC_NAME.now ≡ false
       → IsNamed W metric ms → IsNamed W metric (enforced_matchers name value ms)
   named_kept W None ms other is = tt
   named_kept W (Some metric) ms other is =
@@ -67,7 +68,7 @@ module _ (name value : List ℕ) where
 
   -- what is inherited, the enforced tree has too
   pub enforced_inherits : (W : Word → Type 0) (P : Expr → Type 0) → is_label_name name ≡ true
-      → bytes_eq name (codes "__name__") ≡ false → W (word.Quoted value) → Inherited W P
+      → bytes_eq name METRIC_NAME.now ≡ false → W (word.Quoted value) → Inherited W P
       → Inherited W (λ e. P (enforced name value e))
   enforced_inherits W P label other written inherited = record {
     number = λ z has. subst P (sym (enforced_at (expr.Number z) (Expr-F.Number z) (out-Number z)))

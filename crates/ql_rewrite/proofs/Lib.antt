@@ -1,11 +1,13 @@
 mod ConflictLemmas
 mod EnforcedLemmas
 mod EscapeLemmas
+mod NodePieces
 mod NumberLemmas
 mod PieceLemmas
 mod PrintLemmas
 mod PrintedClauses
 mod PrintedNodes
+mod PrintedWords
 mod PrintedWritten
 mod QuoteLemmas
 mod RunLemmas

@@ -6,9 +6,12 @@ use Rattle.std.proofs.lemmas.Grind.{flat_map-append}
 use Rattle.op_base.specs.declared.matcher.Matcher.{Matcher}
 use Rattle.op_base.specs.declared.span.Span.{Span}
 use Rattle.ql_tree.specs.Durations.{duration_text}
-use Rattle.ql_tree.specs.Operators.{level_of}
+use Rattle.ql_tree.specs.ClauseWords.{matching_word, grouping_word, aggregate_name}
+use Rattle.ql_tree.specs.PrintedParts.{bracketed, clause_pieces, comma, close_comma, label_pieces, labels_pieces, matcher_pieces, braces_pieces, head_pieces, range_pieces, distance_pieces, offset_pieces, selector_pieces, side_pieces, matching_pieces, bool_pieces, operator_pieces, grouping_pieces}
+use Rattle.ql_tree.specs.Selecting.{match_word}
+use Rattle.ql_tree.specs.Operators.{level_of, operator_word}
 use Rattle.ql_tree.specs.Pieces.{Piece, written, bytes_of, quoted_text, piece_text, text_of}
-use Rattle.ql_tree.specs.Printed.{Leveled, bracketed, operator_word, match_word, matching_word, grouping_word, clause_pieces, aggregate_name, comma, close_comma, label_pieces, labels_pieces, matcher_pieces, braces_pieces, head_pieces, range_pieces, distance_pieces, offset_pieces, selector_pieces, side_pieces, matching_pieces, bool_pieces, operator_pieces, grouping_pieces, operand_pieces, listed_pieces, pieces_step, pieces_of}
+use Rattle.ql_tree.specs.Printed.{Leveled, operand_pieces, listed_pieces, pieces_step, pieces_of}
 use Rattle.ql_tree.specs.declared.tree.Expr.{Expr}
 use Rattle.ql_tree.specs.declared.tree.Expr.TheOpen.{Expr-F}
 use Rattle.ql_tree.specs.declared.tree.Expr.TheViews.{out-Expr}
@@ -21,7 +24,7 @@ use Rattle.ql_tree.specs.declared.tree.Expr.TheFolds.{map-Expr}
 use Rattle.ql_tree.specs.declared.word.Word.{Word}
 use Rattle.ql_tree.specs.declared.word.Word.TheVariants as word
 use Rattle.ql_tree.proofs.NodeLemmas.{out-Select, out-Unary, out-Binary, out-Call, out-Aggregate}
-use Rattle.ql_rewrite.proofs.PrintedNodes.{pieces_at}
+use Rattle.ql_rewrite.proofs.NodePieces.{pieces_at}
 
 -- pieces between two words
 between : (t : List ℕ) (v w : Word) (ps : List Piece)

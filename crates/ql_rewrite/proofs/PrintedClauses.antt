@@ -1,15 +1,13 @@
 -- The words of a printed selector, and of the clauses with labels, spell it.
-use Rattle.std.proofs.Common.{◌≡◌, ℕ, suc, ◌<◌, ℤ, pos, negsuc, Bool, true, false, List, [], ◌∷◌, ◌++◌, Option, Some, None, codes, refl, ap, ◌∙◌, zero-le, append_assoc, le-ltb}
+use Rattle.std.proofs.Common.{◌≡◌, ℕ, suc, ◌<◌, ℤ, pos, negsuc, Bool, List, [], ◌∷◌, ◌++◌, Option, Some, None, codes, refl, ap, ◌∙◌, zero-le, append_assoc, le-ltb}
 use Rattle.std.specs.List.{AllByRecursion as Each, join_by}
 use Rattle.op_base.specs.declared.matcher.Matcher.{Matcher}
-use Rattle.op_base.specs.declared.matcher.MatchOp.{MatchOp}
-use Rattle.op_base.specs.declared.matcher.MatchOp.TheVariants as match
 use Rattle.op_base.specs.declared.span.Span.{Span}
 use Rattle.ql_tree.specs.Clauses.{Labels, SideOf, MatchingOf, GroupingOf}
-use Rattle.ql_tree.specs.Operators.{matching_of, side_of, grouping_of}
+use Rattle.ql_tree.specs.ClauseWords.{side_word, matching_word, grouping_word}
+use Rattle.ql_tree.specs.PrintedParts.{comma, label_pieces, side_pieces, matching_pieces, grouping_pieces, matcher_pieces, head_pieces, range_pieces, offset_pieces, distance_pieces, selector_pieces}
 use Rattle.ql_tree.specs.Pieces.{Piece, written}
-use Rattle.ql_tree.specs.Printed.{comma, label_pieces, side_word, side_pieces, matching_word, matching_pieces, grouping_word, grouping_pieces, match_word, matcher_pieces, head_pieces, range_pieces, offset_pieces, distance_pieces, selector_pieces}
-use Rattle.ql_tree.specs.Selecting.{match_of, MatcherOf, Matchers, Head, RangeOf, OffsetOf, SelectorOf}
+use Rattle.ql_tree.specs.Selecting.{match_word, MatcherOf, Matchers, Head, RangeOf, OffsetOf, SelectorOf}
 use Rattle.ql_tree.specs.Words.{keyword_of, span_of}
 use Rattle.ql_tree.specs.declared.tree.Expr.TheVariants as expr
 use Rattle.ql_tree.specs.declared.tree.Grouping.{Grouping}
@@ -19,6 +17,7 @@ use Rattle.ql_tree.specs.declared.word.Keyword.TheVariants as keyword
 use Rattle.ql_tree.specs.declared.word.Word.{Word}
 use Rattle.ql_tree.specs.declared.word.Word.TheVariants as word
 use Rattle.ql_tree.proofs.Inherited.{AreLabels, IsSide, IsMatching, IsMatcher, IsNamed, IsRange}
+use Rattle.ql_rewrite.proofs.PrintedWords.{match_is, matching_is, side_is, grouping_is}
 use Rattle.ql_rewrite.proofs.Written.{words_of}
 
 pub words-append : (ps qs : List Piece) → words_of (ps ++ qs) ≡ words_of ps ++ words_of qs
@@ -47,24 +46,14 @@ labels_spelled (label ∷ next ∷ rest) are =
     Labels.more (keyword_of label) label (next ∷ rest) (words_of (inner_labels (next ∷ rest))) are.0
     (labels_spelled (next ∷ rest) are.1)
 
-side_is : (left : Bool) → side_of (side_word left) ≡ Some left
-unfolding side_of side_word
-side_is true = refl
-side_is false = refl
-
 side_spelled : (n : ℕ) (opens : Bool) (side : Option Side) → 0 < n → IsSide side
     → SideOf n opens side (words_of (side_pieces side))
 side_spelled n opens None some is = SideOf.none
 side_spelled n opens (Some side) some is =
     rw (before_last (inner_labels side.include) word.Close)
     (SideOf.listed (side_word side.left) side.left side.include
-    (words_of (inner_labels side.include)) (side_is side.left) some
+    (words_of (inner_labels side.include)) (side_is side.left).0 some
     (labels_spelled side.include is))
-
-matching_is : (on : Bool) → matching_of (matching_word on) ≡ Some on
-unfolding matching_of matching_word
-matching_is true = refl
-matching_is false = refl
 
 pub matching_spelled : (n : ℕ) (opens : Bool) (m : Option Matching) → 0 < n → IsMatching m
     → MatchingOf n opens m (words_of (matching_pieces m))
@@ -73,12 +62,7 @@ matching_spelled n opens (Some m) some is =
     rw (around (inner_labels m.labels) (side_pieces m.side) word.Close)
     (MatchingOf.given (matching_word m.on) m.on m.labels m.side (words_of (inner_labels m.labels))
     (words_of (side_pieces m.side))
-    (matching_is m.on) some (labels_spelled m.labels is.0) (side_spelled n opens m.side some is.1))
-
-grouping_is : (by : Bool) → grouping_of (grouping_word by) ≡ Some by
-unfolding grouping_of grouping_word
-grouping_is true = refl
-grouping_is false = refl
+    (matching_is m.on).0 some (labels_spelled m.labels is.0) (side_spelled n opens m.side some is.1))
 
 -- the words of `by (a, b)`
 abbrev pub grouping_words : Grouping → List Word
@@ -89,22 +73,15 @@ pub grouping_spelled : (n : ℕ) (g : Grouping) → 0 < n → AreLabels g.labels
     → GroupingOf n g (grouping_words g)
 grouping_spelled n g some are =
     GroupingOf.given (grouping_word g.by) g.by g.labels (words_of (inner_labels g.labels))
-    (grouping_is g.by) some (labels_spelled g.labels are)
+    (grouping_is g.by).0 some (labels_spelled g.labels are)
 
 pub words-grouping : (g : Grouping) (ps : List Piece)
     → words_of (grouping_pieces (Some g) ++ ps) ≡ grouping_words g ++ words_of ps
 words-grouping g ps = simp (words-append, append_assoc)
 
-match_is : (op : MatchOp) → match_of (match_word op) ≡ Some op
-unfolding match_of
-match_is match.Eq = refl
-match_is match.Ne = refl
-match_is match.Re = refl
-match_is match.Nr = refl
-
 matcher_spelled : (m : Matcher) → IsMatcher m → MatcherOf m (words_of (matcher_pieces m))
 matcher_spelled m is =
-    MatcherOf.matcher (keyword_of m.name) m.name m.value (match_word m.op) m.op is (match_is m.op)
+    MatcherOf.matcher (keyword_of m.name) m.name m.value (match_word m.op) m.op is (match_is m.op).0
 
 -- `a="b",c=~"d"`
 abbrev inner_matchers : List Matcher → List Piece

@@ -4,18 +4,18 @@
 use Rattle.std.proofs.Common.{◌≡◌, ℕ, zero, suc, ◌+◌, ◌-◌, ◌<◌, ◌≤◌, inl, inr, Bool, true, false, List, [], ◌∷◌, ◌++◌, Option, Some, None, map, nat_lt, codes, if◌then◌else◌, refl, ap, sym, subst, subst₂, ◌∙◌, zero-le, append-nil, append_assoc, ltb-false, eq-or-lt_of_le, le_of_suc-le-suc, arith}
 use Rattle.std.specs.List.{AllByRecursion as Each}
 use Rattle.ql_tree.specs.Children.{children_of, greatest, depth_of}
-use Rattle.ql_tree.specs.Operators.{operator_of, level_of, is_comparison, sign_of, aggregate_of}
+use Rattle.ql_tree.specs.ClauseWords.{aggregate_word}
+use Rattle.ql_tree.specs.PrintedParts.{bracketed, comma, matching_pieces, bool_pieces, operator_pieces, grouping_pieces}
+use Rattle.ql_tree.specs.Operators.{level_of, is_comparison, operator_word, sign_word}
 use Rattle.ql_tree.specs.Pieces.{Piece, written}
-use Rattle.ql_tree.specs.Printed.{Leveled, bracketed, operator_word, aggregate_word, sign_word, comma, matching_pieces, bool_pieces, operator_pieces, grouping_pieces, placed, listed_pieces, pieces_step, pieces_of}
+use Rattle.ql_tree.specs.Printed.{Leveled, placed, listed_pieces, pieces_step, pieces_of}
 use Rattle.ql_tree.specs.Spells.{Spelling, begins_open, BoolOf, Chain, Signed, Arguments, Operands, Atom, levels, Within}
 use Rattle.ql_tree.specs.declared.tree.AggregateOp.{AggregateOp}
-use Rattle.ql_tree.specs.declared.tree.ArithOp.TheVariants as arithmetic
 use Rattle.ql_tree.specs.declared.tree.BinaryOp.{BinaryOp}
-use Rattle.ql_tree.specs.declared.tree.BinaryOp.TheVariants as binary
 use Rattle.ql_tree.specs.declared.tree.Expr.{Expr}
 use Rattle.ql_tree.specs.declared.tree.Expr.TheOpen.{Expr-F}
 use Rattle.ql_tree.specs.declared.tree.Expr.TheViews.{out-Expr}
-use Rattle.ql_tree.specs.declared.tree.Expr.TheFolds.{map-Expr, fold_out-Expr}
+use Rattle.ql_tree.specs.declared.tree.Expr.TheFolds.{map-Expr}
 use Rattle.ql_tree.specs.declared.tree.Expr.TheVariants as expr
 use Rattle.ql_tree.specs.declared.tree.Grouping.{Grouping}
 use Rattle.ql_tree.specs.declared.tree.Matching.{Matching}
@@ -23,6 +23,8 @@ use Rattle.ql_tree.specs.declared.word.Word.{Word}
 use Rattle.ql_tree.specs.declared.word.Word.TheVariants as word
 use Rattle.ql_tree.proofs.NodeLemmas.{depth_out, out-Number, out-Str, out-Select, out-Unary, out-Binary, out-Call, out-Aggregate}
 use Rattle.ql_tree.proofs.Inherited.{Inherited, IsMatching, IsGrouping}
+use Rattle.ql_rewrite.proofs.NodePieces.{pieces_at}
+use Rattle.ql_rewrite.proofs.PrintedWords.{operator_is, aggregate_is, sign_is}
 use Rattle.ql_rewrite.proofs.Written.{words_of}
 use Rattle.ql_rewrite.proofs.PrintedClauses.{words-append, before_last, matching_spelled, grouping_words, words-grouping, grouping_spelled, selector_spelled}
 
@@ -75,50 +77,6 @@ placed_spelled : (m k : ℕ) (e : Expr) → IsPrinted e → depth_of e < m
 placed_spelled m k e is less =
     placed_by m (depth_of e) k e (pieces_of e) (nat_lt k (pieces_of e).0) is less refl
 
-sign_is : (minus : Bool) → sign_of (sign_word minus) ≡ Some minus
-unfolding sign_of
-sign_is true = refl
-sign_is false = refl
-
-operator_is : (op : BinaryOp) → operator_of (operator_word op) ≡ Some op
-unfolding operator_of
-operator_is (binary.Arith arithmetic.Add) = refl
-operator_is (binary.Arith arithmetic.Sub) = refl
-operator_is (binary.Arith arithmetic.Mul) = refl
-operator_is (binary.Arith arithmetic.Div) = refl
-operator_is (binary.Arith arithmetic.Rem) = refl
-operator_is binary.Eq = refl
-operator_is binary.Ne = refl
-operator_is binary.Gt = refl
-operator_is binary.Lt = refl
-operator_is binary.Ge = refl
-operator_is binary.Le = refl
-operator_is binary.And = refl
-operator_is binary.Unless = refl
-operator_is binary.Or = refl
-
--- the tighter level of an operator's right operand
-operator_level : (op : BinaryOp) → (level_of op ≡ suc (level_of op - 1)) × (level_of op ≤ 5)
-unfolding level_of
-operator_level (binary.Arith arithmetic.Add) = (refl, omega arith)
-operator_level (binary.Arith arithmetic.Sub) = (refl, omega arith)
-operator_level (binary.Arith arithmetic.Mul) = (refl, omega arith)
-operator_level (binary.Arith arithmetic.Div) = (refl, omega arith)
-operator_level (binary.Arith arithmetic.Rem) = (refl, omega arith)
-operator_level binary.Eq = (refl, omega arith)
-operator_level binary.Ne = (refl, omega arith)
-operator_level binary.Gt = (refl, omega arith)
-operator_level binary.Lt = (refl, omega arith)
-operator_level binary.Ge = (refl, omega arith)
-operator_level binary.Le = (refl, omega arith)
-operator_level binary.And = (refl, omega arith)
-operator_level binary.Unless = (refl, omega arith)
-operator_level binary.Or = (refl, omega arith)
-
-aggregate_is : (op : AggregateOp) → aggregate_of (aggregate_word op) ≡ Some op
-unfolding aggregate_of
-aggregate_is op = refl
-
 bool_spelled : (comparison boolean : Bool) → (boolean ≡ true → comparison ≡ true)
     → BoolOf comparison boolean (words_of (bool_pieces boolean))
 bool_spelled comparison true may = BoolOf.given (codes "bool") (may refl)
@@ -136,7 +94,7 @@ operator_spelled : (m : ℕ) (op : BinaryOp) (boolean : Bool) (matching : Option
     (words_of (pieces_step
     (Expr-F.Binary op boolean matching (pieces_of l ∷ []) (pieces_of r ∷ []))).1)
 operator_spelled m op boolean matching l r may is left right le =
-    let level : level_of op ≡ suc (level_of op - 1) = (operator_level op).0 in
+    let level : level_of op ≡ suc (level_of op - 1) = (operator_is op).level in
     let us : List Word = words_of (placed (level_of op - 1) (pieces_of r)) in
     rw (words-operator (placed (level_of op) (pieces_of l)) (placed (level_of op - 1) (pieces_of r)) op boolean matching)
     (subst (λ k. AtLevel m k (expr.Binary op boolean matching (l ∷ []) (r ∷ []))
@@ -146,7 +104,7 @@ operator_spelled m op boolean matching l r may is left right le =
     (sym level)
     (Chain.more (operator_word op) op boolean matching l r
     (words_of (placed (level_of op) (pieces_of l))) (words_of (bool_pieces boolean))
-    (words_of (matching_pieces matching)) us (operator_is op) level
+    (words_of (matching_pieces matching)) us (operator_is op).read level
     (subst (λ k. AtLevel m k l (words_of (placed (level_of op) (pieces_of l)))) level
     (placed_spelled m (level_of op) l left (omega arith)))
     (bool_spelled (is_comparison op) boolean may)
@@ -175,7 +133,7 @@ call_spelled : (m : ℕ) (function : List ℕ) (args : List Expr) → Each IsPri
     → 1 + greatest (map depth_of args) ≤ m
     → Atom m (Within m) (expr.Call function args)
     (words_of (pieces_step (Expr-F.Call function (map pieces_of args))).1)
-call_spelled m function [] are le = Atom.plain_call function (omega arith)
+call_spelled m function [] are le = Atom.empty_call function (omega arith)
 call_spelled m function (e ∷ es) are le =
     rw (before_last (listed_pieces (map pieces_of (e ∷ es))) word.Close)
     (Atom.call function (e ∷ es) (words_of (listed_pieces (map pieces_of (e ∷ es))))
@@ -188,11 +146,11 @@ aggregate_spelled : (m : ℕ) (op : AggregateOp) (g : Option Grouping) (param : 
     (words_of (written (aggregate_word op) ∷ (grouping_pieces g ++ bracketed ps)))
 aggregate_spelled m op None param e ps some is are =
     rw (before_last ps word.Close)
-    (Atom.aggregate (aggregate_word op) op param e (words_of ps) (aggregate_is op) are)
+    (Atom.aggregate (aggregate_word op) op param e (words_of ps) (aggregate_is op).0 are)
 aggregate_spelled m op (Some g) param e ps some is are =
     rw (words-grouping g (bracketed ps))
     (rw (before_last ps word.Close)
-    (Atom.grouped_before (aggregate_word op) op g param e (grouping_words g) (words_of ps) (aggregate_is op)
+    (Atom.grouped_before (aggregate_word op) op g param e (grouping_words g) (words_of ps) (aggregate_is op).0
     (grouping_spelled m g some is) are))
 
 alone_spelled : (m : ℕ) (e : Expr) → IsPrinted e → depth_of e < m
@@ -210,13 +168,8 @@ param_spelled m p e is is_e less less_e =
     (inside m (depth_of p) p (pieces_of p) is less)
     (inside m (depth_of e) e (pieces_of e) is_e less_e)))
 
--- the words of a tree by the node at its root
-pub pieces_at : (e : Expr) (node : Expr-F Expr) → out-Expr e ≡ node
-    → pieces_of e ≡ pieces_step (map-Expr Expr Leveled pieces_of node)
-pieces_at e node is =
-    fold_out-Expr Leveled pieces_step e ∙ ap (λ n. pieces_step (map-Expr Expr Leveled pieces_of n)) is
-
-pub depth_at : (e : Expr) (node : Expr-F Expr) → out-Expr e ≡ node
+-- the depth of a tree by the node at its root
+depth_at : (e : Expr) (node : Expr-F Expr) → out-Expr e ≡ node
     → depth_of e ≡ 1 + greatest (map depth_of (children_of node))
 depth_at e node is = depth_out e ∙ ap (λ n. 1 + greatest (map depth_of (children_of n))) is
 
@@ -243,14 +196,14 @@ printed_spells W = record {
   sign = λ minus e is. printed_by (expr.Unary minus (e ∷ [])) (Expr-F.Unary minus (e ∷ []))
       (out-Unary minus (e ∷ [])) (
         zero-le,
-        λ m le. Signed.sign (sign_word minus) minus e (words_of (placed 0 (pieces_of e))) (sign_is minus)
+        λ m le. Signed.sign (sign_word minus) minus e (words_of (placed 0 (pieces_of e))) (sign_is minus).0
             (placed_spelled m 0 e is (omega arith)),
       );
   operator = λ op boolean matching l r may is left right.
       printed_by (expr.Binary op boolean matching (l ∷ []) (r ∷ []))
       (Expr-F.Binary op boolean matching (l ∷ []) (r ∷ []))
       (out-Binary op boolean matching (l ∷ []) (r ∷ [])) (
-        (operator_level op).1,
+        (operator_is op).loosest,
         λ m le. operator_spelled m op boolean matching l r may is left
             right le,
       );

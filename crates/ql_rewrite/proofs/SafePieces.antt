@@ -2,31 +2,29 @@
 --
 -- What follows a tree, a clause or a list there begins freely: with a blank, a bracket or a comma,
 -- which may stand behind any word.
-use Rattle.std.proofs.Common.{◌≡◌, ℕ, ◌-◌, pos, Bool, true, false, List, [], ◌∷◌, ◌++◌, Option, Some, None, map, not, ◌&&◌, ◌||◌, nat_lt, int_lt, codes, if◌then◌else◌, refl, ap, sym, subst, ◌∙◌, append_assoc, append-nil, arith}
-use Rattle.std.specs.List.{AllByRecursion as Each, flat_map, join_by}
+use Rattle.std.proofs.Common.{◌≡◌, ℕ, ◌-◌, pos, Bool, true, false, List, [], ◌∷◌, ◌++◌, Option, Some, None, not, ◌&&◌, ◌||◌, int_lt, codes, if◌then◌else◌, refl, ap, sym, ◌∙◌, append_assoc, append-nil, arith}
+use Rattle.std.specs.List.{AllByRecursion as Each, join_by}
 use Rattle.op_base.specs.declared.matcher.Matcher.{Matcher}
 use Rattle.op_base.specs.declared.matcher.MatchOp.{MatchOp}
 use Rattle.op_base.specs.declared.matcher.MatchOp.TheVariants as match
 use Rattle.op_base.specs.declared.span.Span.{Span}
-use Rattle.ql_tree.specs.Operators.{level_of}
+use Rattle.ql_tree.specs.ClauseWords.{aggregate_word, matching_word, side_word, grouping_word}
+use Rattle.ql_tree.specs.PrintedParts.{bracketed, label_word, comma, close_comma, label_pieces, labels_pieces, clause_pieces, matcher_pieces, braces_pieces, head_pieces, range_pieces, length_word, distance_pieces, offset_pieces, side_pieces, matching_pieces, bool_pieces, operator_pieces, grouping_pieces}
+use Rattle.ql_tree.specs.Selecting.{match_word}
+use Rattle.ql_tree.specs.Operators.{operator_word, sign_word}
 use Rattle.ql_tree.specs.Pieces.{Piece, blank, written}
-use Rattle.ql_tree.specs.Printed.{Leveled, bracketed, label_word, operator_word, aggregate_word, match_word, sign_word, matching_word, side_word, grouping_word, comma, label_pieces, labels_pieces, clause_pieces, matcher_pieces, braces_pieces, head_pieces, range_pieces, length_word, distance_pieces, offset_pieces, side_pieces, matching_pieces, bool_pieces, operator_pieces, grouping_pieces, placed, listed_pieces, pieces_step, pieces_of}
+use Rattle.ql_tree.specs.Printed.{pieces_of}
 use Rattle.ql_tree.specs.declared.tree.AggregateOp.{AggregateOp}
 use Rattle.ql_tree.specs.declared.tree.BinaryOp.{BinaryOp}
 use Rattle.ql_tree.specs.declared.tree.Expr.{Expr}
-use Rattle.ql_tree.specs.declared.tree.Expr.TheOpen.{Expr-F}
-use Rattle.ql_tree.specs.declared.tree.Expr.TheViews.{out-Expr}
-use Rattle.ql_tree.specs.declared.tree.Expr.TheFolds.{map-Expr}
-use Rattle.ql_tree.specs.declared.tree.Expr.TheVariants as expr
 use Rattle.ql_tree.specs.declared.tree.Grouping.{Grouping}
 use Rattle.ql_tree.specs.declared.tree.Matching.{Matching}
 use Rattle.ql_tree.specs.declared.tree.Side.{Side}
 use Rattle.ql_tree.specs.declared.word.Keyword.TheVariants as keyword
 use Rattle.ql_tree.specs.declared.word.Word.{Word}
 use Rattle.ql_tree.specs.declared.word.Word.TheVariants as word
-use Rattle.ql_tree.proofs.NodeLemmas.{out-Number, out-Str, out-Select, out-Unary, out-Binary, out-Call, out-Aggregate}
 use Rattle.ql_tree.proofs.Inherited.{Inherited}
-use Rattle.ql_rewrite.proofs.PrintedNodes.{pieces_at}
+use Rattle.ql_rewrite.proofs.NodePieces.{joined_has, printed_has}
 use Rattle.ql_rewrite.proofs.Written.{is_run, may_double, begins_equal, is_safe, is_safe_before, are_safe}
 
 -- a blank, or a word that may stand behind any other
@@ -105,32 +103,25 @@ with_blank : (ps : List Piece) → IsFreeBefore ps → IsFreeBeforeAll (ps ++ (b
 with_blank ps first rest safe =
     rw (append_assoc ps (blank ∷ []) rest) (first (blank ∷ rest) (behind_blank rest safe))
 
--- a list with commas, of which each item may stand behind a comma
-module _ {X : Type 0} (f : X → List Piece) (between : List Piece)
-    (may : (ps : List Piece) → IsSafeBefore ps → IsFreeBefore (between ++ ps)) where
-  more_free : (xs : List X) → Each (λ x. IsSafeBefore (f x)) xs
-      → IsFreeBefore (flat_map (λ x. between ++ f x) xs)
-  more_free [] all rest is = is
-  more_free (x ∷ xs) all rest is =
-      both_free (between ++ f x) (flat_map (λ y. between ++ f y) xs) (may (f x) all.0) (more_free xs all.1) rest is
-
-  joined_safe : (xs : List X) → Each (λ x. IsSafeBefore (f x)) xs → IsSafeBefore (join_by f between xs)
-  joined_safe [] all rest is = is.safe
-  joined_safe (x ∷ xs) all rest is =
-      both (f x) (flat_map (λ y. between ++ f y) xs) all.0 (more_free xs all.1) rest is
-
 each_safe : {X : Type 0} (f : X → List Piece) → ((x : X) → IsSafeBefore (f x)) → (xs : List X)
     → Each (λ x. IsSafeBefore (f x)) xs
 each_safe f all [] = tt
 each_safe f all (x ∷ xs) = (all x, each_safe f all xs)
 
-comma_free : (ps : List Piece) → IsSafeBefore ps → IsFreeBefore (comma ++ ps)
-comma_free ps safe rest is =
-    record { begins = refl; safe = opens word.Comma (blank ∷ (ps ++ rest)) refl refl (safe rest is) }
+-- pieces and others behind a comma, with a blank behind it or without
+listed_safe : (ps qs : List Piece) → IsSafeBefore ps → IsSafeBefore qs → IsSafeBefore (ps ++ (comma ++ qs))
+listed_safe ps qs first second =
+    both ps (comma ++ qs) first
+    (λ rest is. record { begins = refl; safe = opens word.Comma (blank ∷ (qs ++ rest)) refl refl (second rest is) })
 
-close_comma_free : (ps : List Piece) → IsSafeBefore ps → IsFreeBefore (written word.Comma ∷ ps)
-close_comma_free ps safe rest is =
-    record { begins = refl; safe = opens word.Comma (ps ++ rest) refl refl (safe rest is) }
+closely_listed : (ps qs : List Piece) → IsSafeBefore ps → IsSafeBefore qs → IsSafeBefore (ps ++ (close_comma ++ qs))
+closely_listed ps qs first second =
+    both ps (close_comma ++ qs) first
+    (λ rest is. record { begins = refl; safe = opens word.Comma (qs ++ rest) refl refl (second rest is) })
+
+-- no pieces
+none_safe : IsSafeBefore []
+none_safe rest is = is.safe
 
 -- what stands between brackets
 bracketed_free : (ps : List Piece) → IsSafeBefore ps
@@ -144,7 +135,7 @@ bracketed_free ps safe rest is = record {
 labels_free : (labels : List (List ℕ)) → IsFreeBefore (labels_pieces labels)
 labels_free labels =
     bracketed_free (join_by label_pieces comma labels)
-    (joined_safe label_pieces comma comma_free labels
+    (joined_has IsSafeBefore label_pieces comma none_safe listed_safe labels
     (each_safe label_pieces (λ label. before_free (label_word label)) labels))
 
 clause_free : (w : Word) (labels : List (List ℕ)) → IsFreeBefore (clause_pieces w labels)
@@ -198,10 +189,10 @@ matcher_safe m rest is = by_operator m.op (before_free (word.Quoted m.value) res
 
 braces_free : (ms : List Matcher) → IsFreeBefore (braces_pieces ms)
 braces_free ms rest is =
-    let between : List Piece = written word.Comma ∷ [] in
-    let inner : List Piece = join_by matcher_pieces between ms in
+    let inner : List Piece = join_by matcher_pieces close_comma ms in
     let safe : IsSafeBefore inner =
-    joined_safe matcher_pieces between close_comma_free ms (each_safe matcher_pieces matcher_safe ms) in
+    joined_has IsSafeBefore matcher_pieces close_comma none_safe closely_listed ms
+    (each_safe matcher_pieces matcher_safe ms) in
     record {
       begins = refl;
       safe = opens word.OpenBrace ((inner ++ (written word.CloseBrace ∷ [])) ++ rest) refl refl
@@ -210,9 +201,9 @@ braces_free ms rest is =
 
 head_safe : (name : Option (List ℕ)) (ms : List Matcher) → IsSafeBefore (head_pieces name ms)
 head_safe None ms rest is = (braces_free ms rest is).safe
-head_safe (Some name) [] rest is = before_free (word.Name keyword.Plain name) rest is
+head_safe (Some name) [] rest is = before_free (word.Name keyword.Unreserved name) rest is
 head_safe (Some name) (m ∷ ms) rest is =
-    before_free (word.Name keyword.Plain name) (braces_pieces (m ∷ ms) ++ rest)
+    before_free (word.Name keyword.Unreserved name) (braces_pieces (m ∷ ms) ++ rest)
     (braces_free (m ∷ ms) rest is)
 
 range_free : (range : Option Span) → IsFreeBefore (range_pieces range)
@@ -237,27 +228,9 @@ offset_free (Some span) rest is = record {
       (behind_blank (distance_pieces span ++ rest) (distance_safe span rest is));
 }
 
-placed_safe : (k : ℕ) (p : Leveled) → IsSafeBefore p.1 → IsSafeBefore (placed k p)
-placed_safe k p safe =
-    elim (nat_lt k p.0) as
-    (λ looser. IsSafeBefore
-    (if looser then bracketed p.1 else p.1)) [
-      | true ↦ λ rest is. (bracketed_free p.1 safe rest is).safe
-      | false ↦ safe
-    ]
-
 -- what may follow the pieces of the tree
 abbrev pub IsSafePrinted : Expr → Type 0
 IsSafePrinted e = IsSafeBefore (pieces_of e).1
-
-listed_safe : (es : List Expr) → Each IsSafePrinted es
-    → IsSafeBefore (listed_pieces (map pieces_of es))
-listed_safe es all = joined_safe (λ (p : Leveled). p.1) comma comma_free (map pieces_of es) (each es all)
-  where
-    each : (trees : List Expr) → Each IsSafePrinted trees
-        → Each (λ (p : Leveled). IsSafeBefore p.1) (map pieces_of trees)
-    each [] are = tt
-    each (e ∷ trees) are = (are.0, each trees are.1)
 
 aggregate_safe : (op : AggregateOp) (g : Option Grouping) (ps : List Piece) → IsSafeBefore ps
     → IsSafeBefore (written (aggregate_word op)
@@ -267,59 +240,34 @@ aggregate_safe op g ps safe rest is =
     before_free (aggregate_word op) ((grouping_pieces g ++ arguments) ++ rest)
     (both_free (grouping_pieces g) arguments (grouping_free g) (bracketed_free ps safe) rest is)
 
-operator_safe : (op : BinaryOp) (boolean : Bool) (m : Option Matching) (l r : Expr) → IsSafePrinted l
-    → IsSafePrinted r
-    → IsSafeBefore (pieces_step (Expr-F.Binary op boolean m (pieces_of l ∷ []) (pieces_of r ∷ []))).1
-operator_safe op boolean m l r left right =
+operator_safe : (op : BinaryOp) (boolean : Bool) (m : Option Matching) (ps qs : List Piece) → IsSafeBefore ps
+    → IsSafeBefore qs → IsSafeBefore (ps ++ (operator_pieces op boolean m ++ qs))
+operator_safe op boolean m ps qs left right =
     let ops : List Piece = operator_pieces op boolean m in
-    let rs : List Piece = placed (level_of op - 1) (pieces_of r) in
-    both (placed (level_of op) (pieces_of l)) (ops ++ rs) (placed_safe (level_of op) (pieces_of l) left)
-    (λ rest is. rw (append_assoc ops rs rest)
-    (operator_free op boolean m (rs ++ rest) (placed_safe (level_of op - 1) (pieces_of r) right rest is)))
+    both ps (ops ++ qs) left
+    (λ rest is. rw (append_assoc ops qs rest) (operator_free op boolean m (qs ++ rest) (right rest is)))
 
 sign_safe : (minus : Bool) (ps : List Piece) → IsSafeBefore ps
     → IsSafeBefore (written (sign_word minus) ∷ ps)
 sign_safe true ps safe rest is = opens word.Minus (ps ++ rest) refl refl (safe rest is)
 sign_safe false ps safe rest is = opens word.Plus (ps ++ rest) refl refl (safe rest is)
 
-safe_by : (e : Expr) (node : Expr-F Expr) → out-Expr e ≡ node
-    → IsSafeBefore (pieces_step (map-Expr Expr Leveled pieces_of node)).1
-    → IsSafePrinted e
-safe_by e node is safe = subst (λ (p : Leveled). IsSafeBefore p.1) (sym (pieces_at e node is)) safe
-
 pub printed_safe : (W : Word → Type 0) → Inherited W IsSafePrinted
-printed_safe W = record {
-  number = λ z has. safe_by (expr.Number z) (Expr-F.Number z) (out-Number z)
-      (before_free (word.Number z));
-  string = λ text has. safe_by (expr.Str text) (Expr-F.Str text) (out-Str text)
-      (before_free (word.Quoted text));
-  selector = λ name ms range offset named are values in_range in_offset.
-      safe_by (expr.Select name ms range offset) (Expr-F.Select name ms range offset)
-      (out-Select name ms range offset)
-      (both (head_pieces name ms) (range_pieces range ++ offset_pieces offset) (head_safe name ms)
-      (both_free (range_pieces range) (offset_pieces offset) (range_free range)
-      (offset_free offset)));
-  sign = λ minus e is. safe_by (expr.Unary minus (e ∷ [])) (Expr-F.Unary minus (e ∷ []))
-      (out-Unary minus (e ∷ []))
-      (sign_safe minus (placed 0 (pieces_of e)) (placed_safe 0 (pieces_of e) is));
-  operator = λ op boolean m l r may is left right.
-      safe_by (expr.Binary op boolean m (l ∷ []) (r ∷ []))
-      (Expr-F.Binary op boolean m (l ∷ []) (r ∷ []))
-      (out-Binary op boolean m (l ∷ []) (r ∷ [])) (operator_safe op boolean m l r left right);
-  call = λ function args has are. safe_by (expr.Call function args) (Expr-F.Call function args)
-      (out-Call function args)
-      (λ rest is. before_free (word.Name keyword.Plain function)
-      (bracketed (listed_pieces (map pieces_of args)) ++ rest)
-      (bracketed_free (listed_pieces (map pieces_of args)) (listed_safe args are) rest is));
-  aggregate = λ op g e is of. safe_by (expr.Aggregate op g [] (e ∷ []))
-      (Expr-F.Aggregate op g [] (e ∷ [])) (out-Aggregate op g [] (e ∷ []))
-      (aggregate_safe op g (listed_pieces (pieces_of e ∷ [])) (listed_safe (e ∷ []) (of, tt)));
-  aggregate_param = λ op g p e is first of.
-      safe_by (expr.Aggregate op g (p ∷ []) (e ∷ [])) (Expr-F.Aggregate op g (p ∷ []) (e ∷ []))
-      (out-Aggregate op g (p ∷ []) (e ∷ []))
-      (aggregate_safe op g (listed_pieces (pieces_of p ∷ pieces_of e ∷ []))
-      (listed_safe (p ∷ e ∷ []) (first, (of, tt))));
-}
+printed_safe W = printed_has W IsSafeBefore (record {
+  none = none_safe;
+  listed = listed_safe;
+  brackets = λ ps safe rest is. (bracketed_free ps safe rest is).safe;
+  number = λ z has. before_free (word.Number z);
+  string = λ text has. before_free (word.Quoted text);
+  selector = λ name ms range offset named are in_range in_offset.
+      both (head_pieces name ms) (range_pieces range ++ offset_pieces offset) (head_safe name ms)
+      (both_free (range_pieces range) (offset_pieces offset) (range_free range) (offset_free offset));
+  sign = sign_safe;
+  operator = λ op boolean m ps qs is left right. operator_safe op boolean m ps qs left right;
+  call = λ function ps has safe rest is.
+      before_free (word.Name keyword.Unreserved function) (bracketed ps ++ rest) (bracketed_free ps safe rest is);
+  aggregate = λ op g ps is safe. aggregate_safe op g ps safe;
+})
 
 -- a whole text has nothing behind it
 pub safe_alone : (e : Expr) → IsSafePrinted e → are_safe (pieces_of e).1 ≡ true

@@ -1,6 +1,7 @@
 -- A tree that some text spells is spelled by its printed text, and so is what enforcement makes of it.
-use Rattle.std.proofs.Common.{◌≡◌, ℕ, ◌≤◌, true, false, List, map, codes, bytes_eq, sym, subst, arith}
+use Rattle.std.proofs.Common.{◌≡◌, ℕ, ◌≤◌, true, false, List, map, bytes_eq, sym, subst, arith}
 use Rattle.op_base.specs.Names.{is_label_name}
+use Rattle.op_base.specs.declared.label_names.TheConstants.{METRIC_NAME}
 use Rattle.ql_tree.specs.Children.{depth_of}
 use Rattle.ql_tree.specs.Enforced.{enforced}
 use Rattle.ql_tree.specs.Printed.{printed, pieces_of}
@@ -45,7 +46,7 @@ printed_again e text spells =
 
 -- the printed text of the enforced tree spells that
 pub enforced_again : (name value : List ℕ) (e : Expr) (text : List ℕ) → is_label_name name ≡ true
-    → bytes_eq name (codes "__name__") ≡ false
+    → bytes_eq name METRIC_NAME.now ≡ false
     → Spells e text → (again : List ℕ) × Spells (enforced name value e) again
 enforced_again name value e text label other spells = (
   printed (enforced name value e),

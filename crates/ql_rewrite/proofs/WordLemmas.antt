@@ -54,41 +54,35 @@ word_of_token (word.Name k text) is = ap (λ m. word.Name m text) (sym is.1)
 word_of_token (word.Quoted text) is = ap (λ t. word.Quoted t) (quoted_value text)
 word_of_token _ is = refl
 
+-- what a text begins with that begins with the word
+record IsBegun (w : Word) (text : List ℕ) : Type 0 where
+  metric : begins is_metric_byte text ≡ is_run w
+  second : begins is_second text ≡ begins_equal w
+  gap : gap_at text ≡ 0
+
+run_begun : (w : Word) (bytes rest : List ℕ) → is_run w ≡ true → begins_equal w ≡ false
+    → begins is_metric_byte bytes ≡ true → IsBegun w (bytes ++ rest)
+run_begun w bytes rest run no_equal begin = record {
+  metric = begins_both is_metric_byte bytes rest begin ∙ sym run;
+  second = run_is_not_second bytes rest begin ∙ sym no_equal;
+  gap = run_is_no_gap bytes rest begin;
+}
+
 -- a name, number or duration begins with a letter or digit
-run_begins : (w : Word) → IsWritten w → is_run w ≡ true → begins is_metric_byte (bytes_of w) ≡ true
-run_begins (word.Number (pos n)) is run =
-    let most : n ≤ MOST = is.1 in begins_metric _ (decimal_is_numeric n (omega arith))
-run_begins (word.Number (negsuc n)) is run = absurd (omega (arith, ints, is.0))
-run_begins (word.Duration span) is run = duration_begins (nat_abs span.0) is.1
-run_begins (word.Name k text) is run = name_begins text is.0
-run_begins _ is run = cc
-
-first_metric : (w : Word) (rest : List ℕ) → IsWritten w → begins is_metric_byte (bytes_of w ++ rest) ≡ is_run w
-unfolding quoted_text
-first_metric (word.Number z) rest is =
-    begins_both is_metric_byte (bytes_of (word.Number z)) rest (run_begins (word.Number z) is refl)
-first_metric (word.Duration span) rest is =
-    begins_both is_metric_byte (bytes_of (word.Duration span)) rest (run_begins (word.Duration span) is refl)
-first_metric (word.Name k text) rest is = begins_both is_metric_byte text rest (run_begins (word.Name k text) is refl)
-first_metric _ rest is = refl
-
-first_second : (w : Word) (rest : List ℕ) → IsWritten w → begins is_second (bytes_of w ++ rest) ≡ begins_equal w
-unfolding quoted_text
-first_second (word.Number z) rest is =
-    run_is_not_second (bytes_of (word.Number z)) rest (run_begins (word.Number z) is refl)
-first_second (word.Duration span) rest is =
-    run_is_not_second (bytes_of (word.Duration span)) rest (run_begins (word.Duration span) is refl)
-first_second (word.Name k text) rest is = run_is_not_second text rest (run_begins (word.Name k text) is refl)
-first_second _ rest is = refl
+begun : (w : Word) (rest : List ℕ) → IsWritten w → IsBegun w (bytes_of w ++ rest)
+unfolding quoted_text gap_at
+begun (word.Number (pos n)) rest is =
+    let most : n ≤ MOST = is.1 in
+    run_begun (word.Number (pos n)) (bytes_of (word.Number (pos n))) rest refl refl
+    (begins_metric _ (decimal_is_numeric n (omega arith)))
+begun (word.Number (negsuc n)) rest is = absurd (omega (arith, ints, is.0))
+begun (word.Duration span) rest is =
+    run_begun (word.Duration span) (bytes_of (word.Duration span)) rest refl refl (duration_begins (nat_abs span.0) is.1)
+begun (word.Name k text) rest is = run_begun (word.Name k text) text rest refl refl (name_begins text is.0)
+begun _ rest is = record { metric = refl; second = refl; gap = refl }
 
 pub no_gap_at_word : (w : Word) (rest : List ℕ) → IsWritten w → gap_at (bytes_of w ++ rest) ≡ 0
-unfolding quoted_text gap_at
-no_gap_at_word (word.Number z) rest is =
-    run_is_no_gap (bytes_of (word.Number z)) rest (run_begins (word.Number z) is refl)
-no_gap_at_word (word.Duration span) rest is =
-    run_is_no_gap (bytes_of (word.Duration span)) rest (run_begins (word.Duration span) is refl)
-no_gap_at_word (word.Name k text) rest is = run_is_no_gap text rest (run_begins (word.Name k text) is refl)
-no_gap_at_word _ rest is = refl
+no_gap_at_word w rest is = (begun w rest is).gap
 
 apart : (a b c d : Bool) → (not (a && b) && not (c && d)) ≡ true → a ≡ true → b ≡ false
 apart true true c d safe is = cc
@@ -101,8 +95,8 @@ apart_too a b c d safe is = grind arith
 -- a word stops before one that may follow it, before a space, and at the end
 pub stops_before : (v w : Word) (rest : List ℕ) → IsWritten w → is_safe v w ≡ true → Stops v (bytes_of w ++ rest)
 stops_before v w rest is safe = record {
-  run = λ run. first_metric w rest is ∙ apart (is_run v) (is_run w) (may_double v) (begins_equal w) safe run;
-  double = λ double. first_second w rest is ∙ apart_too (is_run v) (is_run w) (may_double v) (begins_equal w) safe double;
+  run = λ run. (begun w rest is).metric ∙ apart (is_run v) (is_run w) (may_double v) (begins_equal w) safe run;
+  double = λ double. (begun w rest is).second ∙ apart_too (is_run v) (is_run w) (may_double v) (begins_equal w) safe double;
 }
 
 pub stops_before_space : (v : Word) (rest : List ℕ) → Stops v (32 ∷ rest)

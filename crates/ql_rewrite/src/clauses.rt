@@ -1,14 +1,15 @@
-ghost use Rattle.std.specs.Prelude.{◌≡◌, ◌≤◌, ◌++◌, OnOk, codes, if◌then◌else◌};
+ghost use Rattle.std.specs.Prelude.{◌≡◌, ◌++◌, OnOk, codes, if◌then◌else◌};
 ghost use Rattle.std.specs.List.{join_by};
-ghost use Rattle.ql_tree.specs.Operators as operators;
+ghost use Rattle.ql_tree.specs.ClauseWords as words;
 ghost use Rattle.ql_tree.specs.Pieces.{bytes_of, text_of};
-ghost use Rattle.ql_tree.specs.Printed as spec;
+ghost use Rattle.ql_tree.specs.PrintedParts as spec;
+ghost use Rattle.ql_tree.specs.Selecting.{match_word};
 
 use op_base::{MatchOp, NoMemory, Text};
-use ql_tree::{AggregateOp, ArithOp, BinaryOp, Grouping, Matching, Side};
+use ql_tree::{AggregateOp, BinaryOp, Grouping, Matching, Side};
 
 pub(crate) fn aggregate_name(op: AggregateOp) -> &'static str
-    ensures { result.now ≡ spec.aggregate_name op }
+    ensures { result.now ≡ words.aggregate_name op }
 {
     match op {
         AggregateOp::Sum => "sum",
@@ -23,67 +24,14 @@ pub(crate) fn aggregate_name(op: AggregateOp) -> &'static str
     }
 }
 
-fn arith_name(op: ArithOp) -> &'static str
-    ensures { result.now ≡ bytes_of (spec.operator_word (BinaryOp.Arith op)) }
-{
-    match op {
-        ArithOp::Add => "+",
-        ArithOp::Sub => "-",
-        ArithOp::Mul => "*",
-        ArithOp::Div => "/",
-        ArithOp::Rem => "%",
-    }
-}
-
-fn operator_name(op: BinaryOp) -> &'static str
-    ensures { result.now ≡ bytes_of (spec.operator_word op) }
-{
-    match op {
-        BinaryOp::Arith(op) => arith_name(op),
-        BinaryOp::Eq => "==",
-        BinaryOp::Ne => "!=",
-        BinaryOp::Gt => ">",
-        BinaryOp::Lt => "<",
-        BinaryOp::Ge => ">=",
-        BinaryOp::Le => "<=",
-        BinaryOp::And => "and",
-        BinaryOp::Unless => "unless",
-        BinaryOp::Or => "or",
-    }
-}
-
 pub(crate) fn match_name(op: MatchOp) -> &'static str
-    ensures { result.now ≡ bytes_of (spec.match_word op) }
+    ensures { result.now ≡ bytes_of (match_word op) }
 {
     match op {
         MatchOp::Eq => "=",
         MatchOp::Ne => "!=",
         MatchOp::Re => "=~",
         MatchOp::Nr => "!~",
-    }
-}
-
-/// The operator's level: a lower one binds tighter.
-#[tactic(auto, unfolding(ql_tree::specs::Operators::level_of))]
-pub(crate) fn level_of(op: BinaryOp) -> usize
-    ensures level { result ≡ operators.level_of op }
-    ensures some { 1 ≤ result }
-{
-    match op {
-        BinaryOp::Arith(ArithOp::Mul) => 1,
-        BinaryOp::Arith(ArithOp::Div) => 1,
-        BinaryOp::Arith(ArithOp::Rem) => 1,
-        BinaryOp::Arith(ArithOp::Add) => 2,
-        BinaryOp::Arith(ArithOp::Sub) => 2,
-        BinaryOp::Eq => 3,
-        BinaryOp::Ne => 3,
-        BinaryOp::Gt => 3,
-        BinaryOp::Lt => 3,
-        BinaryOp::Ge => 3,
-        BinaryOp::Le => 3,
-        BinaryOp::And => 4,
-        BinaryOp::Unless => 4,
-        BinaryOp::Or => 5,
     }
 }
 
@@ -98,29 +46,29 @@ pub(crate) fn push_operator(
     ensures { OnOk result (text.new ≡ text.old ++ text_of (spec.operator_pieces op boolean matching.now)) }
 {
     text.push_str(" ")?;
-    text.push_str(operator_name(op))?;
+    text.push_str(op.name())?;
     text.push_str(if boolean { " bool" } else { "" })?;
     push_matching(text, matching)?;
     text.push_str(" ")
 }
 
-#[tactic(auto, unfolding(ql_tree::specs::Printed::matching_word))]
+#[tactic(auto, unfolding(ql_tree::specs::ClauseWords::matching_word))]
 fn matching_name(on: bool) -> &'static str
-    ensures { result.now ≡ bytes_of (spec.matching_word on) }
+    ensures { result.now ≡ bytes_of (words.matching_word on) }
 {
     if on { "on" } else { "ignoring" }
 }
 
-#[tactic(auto, unfolding(ql_tree::specs::Printed::side_word))]
+#[tactic(auto, unfolding(ql_tree::specs::ClauseWords::side_word))]
 fn side_name(left: bool) -> &'static str
-    ensures { result.now ≡ bytes_of (spec.side_word left) }
+    ensures { result.now ≡ bytes_of (words.side_word left) }
 {
     if left { "group_left" } else { "group_right" }
 }
 
-#[tactic(auto, unfolding(ql_tree::specs::Printed::grouping_word))]
+#[tactic(auto, unfolding(ql_tree::specs::ClauseWords::grouping_word))]
 fn grouping_name(by: bool) -> &'static str
-    ensures { result.now ≡ bytes_of (spec.grouping_word by) }
+    ensures { result.now ≡ bytes_of (words.grouping_word by) }
 {
     if by { "by" } else { "without" }
 }

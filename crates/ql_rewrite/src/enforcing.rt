@@ -1,5 +1,6 @@
-ghost use Rattle.std.specs.Prelude.{◌≡◌, ℕ, true, false, List, Err, None, Some, IfOk, OnOk, IsTrue, map, not, codes, bytes_eq};
+ghost use Rattle.std.specs.Prelude.{◌≡◌, ℕ, true, false, List, Err, None, Some, IfOk, OnOk, IsTrue, map, not, bytes_eq};
 ghost use Rattle.std.specs.List.{filter};
+ghost use Rattle.op_base.specs.declared.label_names.TheConstants.{METRIC_NAME};
 ghost use Rattle.op_base.specs.declared.matcher.Matcher.{Matcher as BaseMatcher};
 ghost use Rattle.op_base.specs.Names.{is_label_name};
 ghost use Rattle.ql_tree.specs.Enforced as spec;
@@ -45,7 +46,7 @@ pub fn enforce(
     ensures conflict { (m : BaseMatcher) → result ≡ Err (EnforceFault.Conflict m)
         → IsTrue strict × (spec.first_conflict name.now value.now expr.now ≡ Some m) }
     ensures spelled { (text : List ℕ) → is_label_name name.now ≡ true
-        → bytes_eq name.now (codes "__name__") ≡ false → Spells expr.now text
+        → bytes_eq name.now METRIC_NAME.now ≡ false → Spells expr.now text
         → (again : List ℕ) × Spells (spec.enforced name.now value.now expr.now) again }
 {
     if strict {

@@ -5,7 +5,7 @@ ghost use Rattle.ql_tree.specs.Pieces.{text_of};
 ghost use Rattle.ql_tree.specs.Printed as spec;
 ghost use Rattle.ql_tree.specs.Spells.{Spells};
 
-use crate::clauses::{aggregate_name, level_of, push_grouping, push_operator};
+use crate::clauses::{aggregate_name, push_grouping, push_operator};
 use crate::selectors::{push_quoted, push_selector};
 use op_base::{NoMemory, Text};
 use ql_tree::Expr;
@@ -48,7 +48,7 @@ fn push_tree(alloc: Global, text: &mut Text, expr: &Expr) -> Result<(), NoMemory
             left,
             right,
         } => {
-            let level = level_of(*op);
+            let level = op.level();
             push_operand(alloc, text, level, left.as_slice())?;
             push_operator(text, *op, *boolean, matching)?;
             push_operand(alloc, text, level - 1, right.as_slice())
@@ -137,7 +137,7 @@ fn level(expr: &Expr) -> usize
     ensures { result ≡ (spec.pieces_of expr.now).0 }
 {
     match expr {
-        Expr::Binary { op, .. } => level_of(*op),
+        Expr::Binary { op, .. } => op.level(),
         _ => 0,
     }
 }

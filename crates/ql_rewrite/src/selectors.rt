@@ -2,7 +2,7 @@ ghost use Rattle.std.specs.Prelude.{◌≡◌, ◌++◌, Some, OnOk, codes, nat_
 ghost use Rattle.std.specs.List.{flat_map, join_by};
 ghost use Rattle.ql_tree.specs.Durations.{duration_text};
 ghost use Rattle.ql_tree.specs.Pieces.{escaped, quoted_text, text_of};
-ghost use Rattle.ql_tree.specs.Printed as spec;
+ghost use Rattle.ql_tree.specs.PrintedParts as spec;
 
 use crate::clauses::match_name;
 use op_base::{Matcher, NoMemory, Span, Text, span_text};

@@ -26,10 +26,6 @@ fits_more radix i value d small few below digit =
     let e : radix ^ suc i ≡ radix ^ i * radix = pow-suc radix i in
     omega (arith, a, b, c, e)
 
--- where all bytes pass a test, the byte at a place does
-pub holds_at : (p : ℕ → Bool) (bs : List ℕ) (i : ℕ) → list_all p bs ≡ true → i < length bs → p (get_or bs i 0) ≡ true
-holds_at p bs i all below = grind (arith, common_steps, list_all_at)
-
 run_passes : (p : ℕ → Bool) (bs : List ℕ) → list_all p (take (prefix_len p bs) bs) ≡ true
 run_passes p [] = refl
 run_passes p (b ∷ bs) = first_byte (p b) refl (run_passes p bs)

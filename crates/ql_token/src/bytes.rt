@@ -17,11 +17,11 @@ pub(crate) fn gap(bytes: &[u8]) -> usize
     ensures within { result ≤ length bytes.now }
 {
     match bytes {
-        [b, rest @ ..] => {
+        [b, behind @ ..] => {
             if is_blank(*b) {
                 1
             } else if *b == b'#' {
-                1 + line(rest)
+                1 + line(behind)
             } else {
                 0
             }
@@ -58,7 +58,7 @@ fn is_word_byte(b: u8) -> bool
 }
 
 /// The text behind its first `n` bytes.
-pub(crate) fn behind(bytes: &[u8], n: usize) -> &[u8]
+pub(crate) fn past(bytes: &[u8], n: usize) -> &[u8]
     requires { n ≤ length bytes.now }
     ensures behind { result.now ≡ drop n bytes.now }
     ensures left { n + length result.now ≡ length bytes.now }

@@ -4,7 +4,7 @@ ghost use Rattle.ql_tree.specs.declared.token.Token.{Token};
 ghost use Rattle.ql_tree.specs.Tokens.{IsTokens, IsBadAt};
 ghost use Rattle.ql_token.specs.Cuts.{IsStep};
 
-use crate::bytes::{behind, gap};
+use crate::bytes::{gap, past};
 use crate::fault::TokenFault;
 use crate::front::front;
 use op_base::List;
@@ -42,13 +42,13 @@ pub fn tokens(alloc: Global, text: &str) -> Result<List<Token>, TokenFault>
         → ¬ (IsTokens text.now found) }
 {
     let mut found = List::new(alloc);
-    let mut rest = text.as_bytes();
+    let mut behind = text.as_bytes();
     let mut place: usize = 0;
-    while rest.len() > 0 {
-        match next(rest) {
+    while behind.len() > 0 {
+        match next(behind) {
             Step::Gap(blank) => {
                 place += blank;
-                rest = behind(rest, blank);
+                behind = past(behind, blank);
             }
             Step::Token(kind, len) => {
                 found.push(Token {
@@ -57,7 +57,7 @@ pub fn tokens(alloc: Global, text: &str) -> Result<List<Token>, TokenFault>
                     end: place + len,
                 })?;
                 place += len;
-                rest = behind(rest, len);
+                behind = past(behind, len);
             }
             Step::Bad => return Err(TokenFault::BadChar(place)),
         }

@@ -15,37 +15,37 @@ pub(crate) fn front(bytes: &[u8]) -> Option<(TokenKind, usize)>
     ensures within { IfSome result (λ found. (0 < found.1) × (found.1 ≤ length bytes.now)) }
 {
     match bytes {
-        [b, rest @ ..] => {
+        [b, behind @ ..] => {
             if is_word_start(*b) {
                 Some((TokenKind::Word, run(bytes)))
             } else if b.is_ascii_digit() {
                 number_or_duration(bytes)
             } else if is_quote(*b) {
-                string(*b, rest)
+                string(*b, behind)
             } else {
-                symbol(*b, rest)
+                symbol(*b, behind)
             }
         }
         [] => None,
     }
 }
 
-fn string(quote: u8, rest: &[u8]) -> Option<(TokenKind, usize)>
-    ensures string { result ≡ option_map (λ found. (TokenKind.Str, 1 + found.1)) (inside_from quote 0 rest.now) }
-    ensures within { IfSome result (λ found. (0 < found.1) × (found.1 ≤ 1 + length rest.now)) }
+fn string(quote: u8, behind: &[u8]) -> Option<(TokenKind, usize)>
+    ensures string { result ≡ option_map (λ found. (TokenKind.Str, 1 + found.1)) (inside_from quote 0 behind.now) }
+    ensures within { IfSome result (λ found. (0 < found.1) × (found.1 ≤ 1 + length behind.now)) }
 {
-    match inside(quote, rest) {
+    match inside(quote, behind) {
         Some(n) => Some((TokenKind::Str, 1 + n)),
         None => None,
     }
 }
 
 #[tactic(auto, unfolding(ql_tree::specs::Tokens::symbol_at))]
-fn symbol(b: u8, rest: &[u8]) -> Option<(TokenKind, usize)>
-    ensures symbol { result ≡ spec.symbol_at b rest.now }
-    ensures within { IfSome result (λ found. (0 < found.1) × (found.1 ≤ 1 + length rest.now)) }
+fn symbol(b: u8, behind: &[u8]) -> Option<(TokenKind, usize)>
+    ensures symbol { result ≡ spec.symbol_at b behind.now }
+    ensures within { IfSome result (λ found. (0 < found.1) × (found.1 ≤ 1 + length behind.now)) }
 {
-    if doubles(b, rest) {
+    if doubles(b, behind) {
         Some((TokenKind::Symbol, 2))
     } else if is_single(b) {
         Some((TokenKind::Symbol, 1))
@@ -54,11 +54,11 @@ fn symbol(b: u8, rest: &[u8]) -> Option<(TokenKind, usize)>
     }
 }
 
-fn doubles(b: u8, rest: &[u8]) -> bool
-    ensures doubles { result ≡ spec.doubles b rest.now }
-    ensures within { IsTrue result → 0 < length rest.now }
+fn doubles(b: u8, behind: &[u8]) -> bool
+    ensures doubles { result ≡ spec.doubles b behind.now }
+    ensures within { IsTrue result → 0 < length behind.now }
 {
-    match rest {
+    match behind {
         [c, _behind @ ..] => is_double(b, *c),
         [] => false,
     }

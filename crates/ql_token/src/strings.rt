@@ -6,7 +6,7 @@ ghost use Rattle.std.specs.Str.Parse.{digits_value};
 ghost use Rattle.ql_tree.specs.Strings as spec;
 ghost use Rattle.ql_token.specs.Inside.{IsStep, length_of};
 
-use crate::bytes::behind;
+use crate::bytes::past;
 
 /// The number that the next digits of the radix write, as many as asked.
 #[tactic(auto, unfolding(ql_tree::specs::Strings::numeral_at))]
@@ -151,15 +151,15 @@ pub fn escape(quote: u8, bytes: &[u8]) -> Option<(u32, usize)>
     ensures within { IfSome result (λ found. found.1 ≤ length bytes.now) }
 {
     match bytes {
-        [e, rest @ ..] => {
+        [e, behind @ ..] => {
             if (*e as char).is_digit(8) {
                 seven_bit(0, 8, 3, bytes)
             } else if *e == b'x' {
-                seven_bit(1, 16, 2, rest)
+                seven_bit(1, 16, 2, behind)
             } else if *e == b'u' {
-                character(4, rest)
+                character(4, behind)
             } else if *e == b'U' {
-                character(8, rest)
+                character(8, behind)
             } else {
                 short_escape(quote, *e)
             }
@@ -175,13 +175,13 @@ fn piece(quote: u8, bytes: &[u8]) -> Option<usize>
     ensures within { IfSome result (λ n. (0 < n) × (n ≤ length bytes.now)) }
 {
     match bytes {
-        [b, rest @ ..] => {
+        [b, behind @ ..] => {
             if quote == b'`' {
                 Some(1)
             } else if *b == b'\n' {
                 None
             } else if *b == b'\\' {
-                behind_backslash(quote, rest)
+                behind_backslash(quote, behind)
             } else {
                 Some(1)
             }
@@ -210,7 +210,7 @@ fn next(quote: u8, bytes: &[u8]) -> Step
     ensures { IsStep quote bytes.now result }
 {
     match bytes {
-        [b, _rest @ ..] => {
+        [b, _behind @ ..] => {
             if *b == quote {
                 return Step::Close;
             }
@@ -228,15 +228,15 @@ pub(crate) fn inside(quote: u8, bytes: &[u8]) -> Option<usize>
     ensures inside { result ≡ length_of quote 0 bytes.now }
     ensures within { IfSome result (λ n. n ≤ length bytes.now) }
 {
-    let mut rest = bytes;
+    let mut behind = bytes;
     let mut taken: usize = 0;
     loop {
-        match next(quote, rest) {
+        match next(quote, behind) {
             Step::Close => return Some(taken + 1),
             Step::Broken => return None,
             Step::Piece(n) => {
                 taken += n;
-                rest = behind(rest, n);
+                behind = past(behind, n);
             }
         }
     }

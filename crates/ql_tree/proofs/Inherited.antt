@@ -1,6 +1,6 @@
 -- Every tree that words spell has a property that each kind of node has from its parts.
 --
--- A text's words are more than the grammar says of them: a number fits, a plain name isn't reserved.
+-- A text's words are more than the grammar says of them: a number fits, a name is no reserved word where it stands alone.
 -- So a property is shown over words of which each has a property `W` of its own.
 use Rattle.std.proofs.Common.{◌≡◌, ℕ, zero, suc, ℤ, pos, neg_ℤ, ◌<ℤ◌, Bool, true, false, ◌⊎◌, inl, inr, List, [], ◌∷◌, ◌++◌, Option, Some, None, refl}
 use Rattle.std.specs.List.{AllByRecursion as Each, list_any}
@@ -46,7 +46,7 @@ module _ (W : Word → Type 0) where
   -- a name that isn't reserved, and no matcher on `__name__` beside it
   abbrev pub IsNamed : Option (List ℕ) → List Matcher → Type 0
   IsNamed None ms = Unit
-  IsNamed (Some name) ms = W (word.Name keyword.Plain name) × (list_any is_on_name ms ≡ false)
+  IsNamed (Some name) ms = W (word.Name keyword.Unreserved name) × (list_any is_on_name ms ≡ false)
 
   abbrev pub IsRange : Option Span → Type 0
   IsRange None = Unit
@@ -72,7 +72,7 @@ module _ (W : Word → Type 0) where
     pub operator : (op : BinaryOp) (boolean : Bool) (m : Option Matching) (l r : Expr)
         → (boolean ≡ true → is_comparison op ≡ true) → IsMatching m → P l → P r
         → P (expr.Binary op boolean m (l ∷ []) (r ∷ []))
-    pub call : (function : List ℕ) (args : List Expr) → W (word.Name keyword.Plain function)
+    pub call : (function : List ℕ) (args : List Expr) → W (word.Name keyword.Unreserved function)
         → Each P args
         → P (expr.Call function args)
     pub aggregate : (op : AggregateOp) (g : Option Grouping) (e : Expr) → IsGrouping g → P e
@@ -226,7 +226,7 @@ module _ (W : Word → Type 0) (P : Expr → Type 0) (inherited : Inherited W P)
   atom_has n Inside gives _ _ (Atom.selector e ts is) all = selector_has e ts is all
   atom_has n Inside gives _ _ (Atom.bracketed e ts is) all =
       gives e ts is (front_has W ts (word.Close ∷ []) all.1)
-  atom_has n Inside gives _ _ (Atom.plain_call function some) all =
+  atom_has n Inside gives _ _ (Atom.empty_call function some) all =
       inherited.call function [] all.0 tt
   atom_has n Inside gives _ _ (Atom.call function args ts are) all =
       inherited.call function args all.0

@@ -5,9 +5,10 @@ use Rattle.ql_tree.specs.Arithmetic.{arith_of}
 use Rattle.ql_tree.specs.Calls.{call_shape, parameters_of, label_join_shape}
 use Rattle.ql_tree.specs.Durations.{is_duration}
 use Rattle.ql_tree.specs.Enforced.{enforced_matchers, matcher_of}
-use Rattle.ql_tree.specs.Operators.{is_comparison}
+use Rattle.ql_tree.specs.PrintedParts.{head_pieces}
+use Rattle.ql_tree.specs.Operators.{is_comparison, is_set, level_of}
 use Rattle.ql_tree.specs.Pieces.{quoted_text, blank, written, text_of}
-use Rattle.ql_tree.specs.Printed.{placed, head_pieces}
+use Rattle.ql_tree.specs.Printed.{placed}
 use Rattle.ql_tree.specs.Reserved.{is_reserved}
 use Rattle.ql_tree.specs.Shapes.{have_types}
 use Rattle.ql_tree.specs.Spells.{Chain, Signed, Atom, Within}
@@ -66,7 +67,7 @@ quotes = refl
 
 -- a comparison of two scalars without `bool`
 no_bool : binary_shape binary.Eq false None (shape.Scalar ∷ shape.Scalar ∷ []) ≡ None
-unfolding binary_shape have_types is_comparison
+unfolding binary_shape have_types is_comparison is_set level_of
 no_bool = refl
 
 rate_of_a_range : call_shape (codes "rate") (shape.Range ∷ []) ≡ Some shape.Vector

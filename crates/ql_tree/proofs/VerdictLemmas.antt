@@ -85,23 +85,3 @@ one_fewer es ss new s e at is =
     let inside : length ss < length es = slice_get_within es (length ss) e at in
     let longer : length new ≡ length ss + 1 = ap length is ∙ length-append ss (s ∷ []) in
     omega arith
-
-greatest-append : (ms ns : List ℕ) → greatest (ms ++ ns) ≡ max (greatest ms) (greatest ns)
-greatest-append [] ns = omega arith
-greatest-append (m ∷ ms) ns = omega (arith, greatest-append ms ns)
-
--- the children on either side are less deep
-pub left_below : (e : Expr) (ls rs : List Expr) → children e ≡ ls ++ rs → 2 * greatest (map depth_of ls) + 1 < 2 * depth_of e
-left_below e ls rs is =
-    let whole : greatest (map depth_of (children e)) ≡ max (greatest (map depth_of ls)) (greatest (map depth_of rs)) =
-    ap (λ es. greatest (map depth_of es)) is ∙ ap greatest (map-append depth_of ls rs) ∙ greatest-append (map depth_of ls) (map depth_of rs) in
-    omega (arith, depth_out e)
-
-pub right_below : (e : Expr) (ls rs : List Expr) → children e ≡ ls ++ rs → 2 * greatest (map depth_of rs) + 1 < 2 * depth_of e
-right_below e ls rs is =
-    let whole : greatest (map depth_of (children e)) ≡ max (greatest (map depth_of ls)) (greatest (map depth_of rs)) =
-    ap (λ es. greatest (map depth_of es)) is ∙ ap greatest (map-append depth_of ls rs) ∙ greatest-append (map depth_of ls) (map depth_of rs) in
-    omega (arith, depth_out e)
-
-pub item_below : (es : List Expr) (i : ℕ) (e : Expr) → i < length es → e ≡ get_or es i e → 2 * depth_of e < 2 * greatest (map depth_of es) + 1
-item_below es i e inside is = let inner = less_deep es i e (slice_get_read es (length es) i e refl inside is) in omega arith

@@ -4,7 +4,7 @@
 -- Throughout the grammar, `n` is how many round brackets may still be opened where the words stand.
 use Rattle.std.specs.Prelude.{◌≡◌, ℕ, ◌<◌, Bool, true, false, List, [], ◌∷◌, ◌++◌, Option, Some, None}
 use Rattle.op_base.specs.Names.{is_label_name}
-use Rattle.ql_tree.specs.Operators.{matching_of, side_of, grouping_of}
+use Rattle.ql_tree.specs.ClauseWords.{matching_of, side_of, grouping_of}
 use Rattle.ql_tree.specs.declared.tree.Matching.{Matching}
 use Rattle.ql_tree.specs.declared.tree.Side.{Side}
 use Rattle.ql_tree.specs.declared.tree.Grouping.{Grouping}

@@ -1,6 +1,7 @@
 pub mod Arithmetic
 pub mod Calls
 pub mod Children
+pub mod ClauseWords
 pub mod Clauses
 pub mod Durations
 pub mod Enforced
@@ -9,6 +10,7 @@ pub mod Operators
 pub mod Patterns
 pub mod Pieces
 pub mod Printed
+pub mod PrintedParts
 pub mod Reserved
 pub mod Selecting
 pub mod Shapes

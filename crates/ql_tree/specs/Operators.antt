@@ -1,24 +1,44 @@
--- The binary operators of PromQL and their levels: a lower level binds tighter, and each level is
--- left-associative.
-use Rattle.std.specs.Prelude.{ℕ, Bool, true, false, Option, Some, None}
+-- The binary operators of PromQL, their words and their levels: a lower level binds tighter, and each
+-- level is left-associative. And the two signs.
+use Rattle.std.specs.Prelude.{ℕ, Bool, true, false, Option, Some, None, codes, ◌==◌, nat_lt, if◌then◌else◌}
 use Rattle.ql_tree.specs.declared.tree.ArithOp.{ArithOp}
 use Rattle.ql_tree.specs.declared.tree.ArithOp.TheVariants.{Add, Sub, Mul, Div, Rem}
 use Rattle.ql_tree.specs.declared.tree.BinaryOp.{BinaryOp}
 use Rattle.ql_tree.specs.declared.tree.BinaryOp.TheVariants as binary
-use Rattle.ql_tree.specs.declared.tree.AggregateOp.{AggregateOp}
 use Rattle.ql_tree.specs.declared.word.Keyword.{Keyword}
 use Rattle.ql_tree.specs.declared.word.Keyword.TheVariants as keyword
 use Rattle.ql_tree.specs.declared.word.Word.{Word}
 use Rattle.ql_tree.specs.declared.word.Word.TheVariants as word
 
--- the operators that are words
+-- the word of an operator of arithmetic
+abbrev pub arith_word : ArithOp → Word
+arith_word Add = word.Plus
+arith_word Sub = word.Minus
+arith_word Mul = word.Star
+arith_word Div = word.Slash
+arith_word Rem = word.Percent
+
+-- the word of a binary operator, in lower case where it has letters
+abbrev pub operator_word : BinaryOp → Word
+operator_word (binary.Arith op) = arith_word op
+operator_word binary.Eq = word.Equal
+operator_word binary.Ne = word.NotEqual
+operator_word binary.Gt = word.Greater
+operator_word binary.Lt = word.Less
+operator_word binary.Ge = word.GreaterEqual
+operator_word binary.Le = word.LessEqual
+operator_word binary.And = word.Name keyword.And (codes "and")
+operator_word binary.Unless = word.Name keyword.Unless (codes "unless")
+operator_word binary.Or = word.Name keyword.Or (codes "or")
+
+-- the operators that are words with letters
 abbrev pub keyword_operator : Keyword → Option BinaryOp
 keyword_operator keyword.And = Some binary.And
 keyword_operator keyword.Unless = Some binary.Unless
 keyword_operator keyword.Or = Some binary.Or
 keyword_operator _ = None
 
--- the binary operator that the word is
+-- the binary operator that the word is, in any letter case
 unfoldable pub operator_of : Word → Option BinaryOp
 operator_of word.Star = Some (binary.Arith Mul)
 operator_of word.Slash = Some (binary.Arith Div)
@@ -57,23 +77,11 @@ level_of binary.Or = 5
 
 -- `==`, `!=`, `>`, `<`, `>=` or `<=`, which alone may have `bool`
 unfoldable pub is_comparison : BinaryOp → Bool
-is_comparison binary.Eq = true
-is_comparison binary.Ne = true
-is_comparison binary.Gt = true
-is_comparison binary.Lt = true
-is_comparison binary.Ge = true
-is_comparison binary.Le = true
-is_comparison _ = false
+is_comparison op = level_of op == 3
 
--- the aggregate that a word names
-abbrev pub keyword_aggregate : Keyword → Option AggregateOp
-keyword_aggregate (keyword.Aggregate op) = Some op
-keyword_aggregate _ = None
-
--- the aggregate that the word is
-unfoldable pub aggregate_of : Word → Option AggregateOp
-aggregate_of (word.Name k text) = keyword_aggregate k
-aggregate_of _ = None
+-- `and`, `unless` or `or`, the operators on sets of elements
+unfoldable pub is_set : BinaryOp → Bool
+is_set op = nat_lt 3 (level_of op)
 
 -- `-` is true, `+` false
 unfoldable pub sign_of : Word → Option Bool
@@ -81,35 +89,6 @@ sign_of word.Minus = Some true
 sign_of word.Plus = Some false
 sign_of _ = None
 
--- the words that begin the matching of labels; true of `on`
-abbrev pub keyword_matching : Keyword → Option Bool
-keyword_matching keyword.On = Some true
-keyword_matching keyword.Ignoring = Some false
-keyword_matching _ = None
-
--- `on` is true, `ignoring` false
-unfoldable pub matching_of : Word → Option Bool
-matching_of (word.Name k text) = keyword_matching k
-matching_of _ = None
-
--- the words that begin a group clause; true of `group_left`
-abbrev pub keyword_side : Keyword → Option Bool
-keyword_side keyword.GroupLeft = Some true
-keyword_side keyword.GroupRight = Some false
-keyword_side _ = None
-
--- `group_left` is true, `group_right` false
-unfoldable pub side_of : Word → Option Bool
-side_of (word.Name k text) = keyword_side k
-side_of _ = None
-
--- the words that begin a grouping; true of `by`
-abbrev pub keyword_grouping : Keyword → Option Bool
-keyword_grouping keyword.By = Some true
-keyword_grouping keyword.Without = Some false
-keyword_grouping _ = None
-
--- `by` is true, `without` false
-unfoldable pub grouping_of : Word → Option Bool
-grouping_of (word.Name k text) = keyword_grouping k
-grouping_of _ = None
+-- `-` or `+`
+abbrev pub sign_word : Bool → Word
+sign_word minus = if minus then word.Minus else word.Plus

@@ -1,7 +1,8 @@
 -- Selectors of PromQL: a name, matchers in braces, a range and an offset.
-use Rattle.std.specs.Prelude.{◌≡◌, ℕ, ℤ, pos, neg_ℤ, ◌<ℤ◌, Bool, true, false, List, [], ◌∷◌, ◌++◌, Option, Some, None, codes, bytes_eq}
+use Rattle.std.specs.Prelude.{◌≡◌, ℕ, ℤ, pos, neg_ℤ, ◌<ℤ◌, Bool, true, false, List, [], ◌∷◌, ◌++◌, Option, Some, None, bytes_eq}
 use Rattle.std.specs.List.{list_any}
 use Rattle.op_base.specs.Names.{is_label_name}
+use Rattle.op_base.specs.declared.label_names.TheConstants.{METRIC_NAME}
 use Rattle.op_base.specs.declared.matcher.Matcher.{Matcher}
 use Rattle.op_base.specs.declared.matcher.MatchOp.{MatchOp}
 use Rattle.op_base.specs.declared.matcher.MatchOp.TheVariants as match
@@ -22,6 +23,13 @@ match_of word.Match = Some match.Re
 match_of word.NotMatch = Some match.Nr
 match_of _ = None
 
+-- the word of a matcher's operator
+abbrev pub match_word : MatchOp → Word
+match_word match.Eq = word.Assign
+match_word match.Ne = word.NotEqual
+match_word match.Re = word.Match
+match_word match.Nr = word.NotMatch
+
 -- a label, an operator and a string
 pub data MatcherOf : Matcher → List Word → Type 0 where
   matcher : (k : Keyword) (label value : List ℕ) (w : Word) (op : MatchOp) → is_label_name label ≡ true → match_of w ≡ Some op
@@ -36,13 +44,13 @@ pub data Matchers : List Matcher → List Word → Type 0 where
 
 -- the matcher is on the metric's name
 abbrev pub is_on_name : Matcher → Bool
-is_on_name m = bytes_eq m.name (codes "__name__")
+is_on_name m = bytes_eq m.name METRIC_NAME.now
 
 -- a name that isn't reserved, matchers in braces, or both; a named selector has no matcher on `__name__`
 pub data Head : Option (List ℕ) → List Matcher → List Word → Type 0 where
-  bare : (name : List ℕ) → Head (Some name) [] (word.Name keyword.Plain name ∷ [])
+  bare : (name : List ℕ) → Head (Some name) [] (word.Name keyword.Unreserved name ∷ [])
   named : (name : List ℕ) (ms : List Matcher) (ts : List Word) → list_any is_on_name ms ≡ false → Matchers ms ts
-      → Head (Some name) ms (word.Name keyword.Plain name ∷ word.OpenBrace ∷ (ts ++ (word.CloseBrace ∷ [])))
+      → Head (Some name) ms (word.Name keyword.Unreserved name ∷ word.OpenBrace ∷ (ts ++ (word.CloseBrace ∷ [])))
   nameless : (ms : List Matcher) (ts : List Word) → Matchers ms ts
       → Head None ms (word.OpenBrace ∷ (ts ++ (word.CloseBrace ∷ [])))
 

@@ -5,7 +5,8 @@
 use Rattle.std.specs.Prelude.{◌≡◌, ℕ, zero, suc, ◌<◌, ◌≤◌, ℤ, Bool, true, false, List, [], ◌∷◌, ◌++◌, map, Option, Some, None}
 use Rattle.ql_tree.specs.Children.{depth_of}
 use Rattle.ql_tree.specs.Clauses.{MatchingOf, GroupingOf}
-use Rattle.ql_tree.specs.Operators.{operator_of, level_of, is_comparison, sign_of, aggregate_of}
+use Rattle.ql_tree.specs.ClauseWords.{aggregate_of}
+use Rattle.ql_tree.specs.Operators.{operator_of, level_of, is_comparison, sign_of}
 use Rattle.ql_tree.specs.Selecting.{SelectorOf}
 use Rattle.ql_tree.specs.Tokens.{IsTokens}
 use Rattle.ql_tree.specs.Words.{word_in}
@@ -72,10 +73,10 @@ pub data Atom (n : ℕ) (Inside : Spelling) : Expr → List Word → Type 0 wher
   string : (text : List ℕ) → Atom n Inside (expr.Str text) (word.Quoted text ∷ [])
   selector : (e : Expr) (ts : List Word) → SelectorOf e ts → Atom n Inside e ts
   bracketed : (e : Expr) (ts : List Word) → Inside e ts → Atom n Inside e (word.Open ∷ (ts ++ (word.Close ∷ [])))
-  plain_call : (function : List ℕ) → 0 < n
-      → Atom n Inside (expr.Call function []) (word.Name keyword.Plain function ∷ word.Open ∷ word.Close ∷ [])
+  empty_call : (function : List ℕ) → 0 < n
+      → Atom n Inside (expr.Call function []) (word.Name keyword.Unreserved function ∷ word.Open ∷ word.Close ∷ [])
   call : (function : List ℕ) (args : List Expr) (ts : List Word) → Arguments Inside args ts
-      → Atom n Inside (expr.Call function args) (word.Name keyword.Plain function ∷ word.Open ∷ (ts ++ (word.Close ∷ [])))
+      → Atom n Inside (expr.Call function args) (word.Name keyword.Unreserved function ∷ word.Open ∷ (ts ++ (word.Close ∷ [])))
   aggregate : (w : Word) (op : AggregateOp) (param : List Expr) (e : Expr) (ts : List Word)
       → aggregate_of w ≡ Some op → Operands Inside param e ts
       → Atom n Inside (expr.Aggregate op None param (e ∷ [])) (w ∷ word.Open ∷ (ts ++ (word.Close ∷ [])))

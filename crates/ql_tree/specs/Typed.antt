@@ -11,12 +11,11 @@ use Rattle.op_base.specs.declared.span.Span.{Span}
 use Rattle.ql_tree.specs.Calls.{call_shape}
 use Rattle.ql_tree.specs.Shapes.{have_types, text_at, type_of_shape}
 use Rattle.ql_tree.specs.Children.{children_of}
-use Rattle.ql_tree.specs.Operators.{is_comparison}
+use Rattle.ql_tree.specs.Operators.{is_comparison, is_set}
 use Rattle.ql_tree.specs.Patterns.{is_pattern}
 use Rattle.ql_tree.specs.declared.tree.AggregateOp.{AggregateOp}
 use Rattle.ql_tree.specs.declared.tree.AggregateOp.TheVariants.{CountValues, TopK, BottomK}
 use Rattle.ql_tree.specs.declared.tree.BinaryOp.{BinaryOp}
-use Rattle.ql_tree.specs.declared.tree.BinaryOp.TheVariants.{And, Unless, Or}
 use Rattle.ql_tree.specs.declared.tree.Expr.{Expr}
 use Rattle.ql_tree.specs.declared.tree.Expr.TheOpen.{Expr-F}
 use Rattle.ql_tree.specs.declared.tree.Expr.TheFolds.{fold-Expr}
@@ -52,13 +51,6 @@ unfoldable pub sign_shape : List Shape → Option Shape
 sign_shape shapes =
     if have_types shapes (Scalar ∷ []) then Some shape.Scalar
     else if have_types shapes (Vector ∷ []) then Some shape.Vector else None
-
--- the operators on sets of elements
-abbrev pub is_set : BinaryOp → Bool
-is_set And = true
-is_set Unless = true
-is_set Or = true
-is_set _ = false
 
 -- the label isn't among these
 abbrev pub is_missing : List (List ℕ) → List ℕ → Bool

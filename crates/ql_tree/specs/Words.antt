@@ -39,7 +39,7 @@ keywords =
 unfoldable pub keyword_of : List ℕ → Keyword
 keyword_of text =
     if is_reserved text then unwrap_or (found_in (str_eq_ignore_ascii_case text) keywords) keyword.Unused
-    else keyword.Plain
+    else keyword.Unreserved
 
 -- the texts of the symbols and their words
 abbrev pub symbols : List (List ℕ × Word)

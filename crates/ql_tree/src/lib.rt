@@ -5,6 +5,7 @@
 
 mod calls;
 mod copies;
+mod operators;
 mod reserved;
 mod rules;
 mod shapes;

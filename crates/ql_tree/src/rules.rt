@@ -1,7 +1,6 @@
 ghost use Rattle.std.specs.Prelude.{◌≡◌, bytes_eq};
 ghost use Rattle.std.specs.List.{list_all, list_any};
 ghost use Rattle.ql_tree.specs.Typed as spec;
-ghost use Rattle.ql_tree.specs.Operators as operators;
 
 use crate::shapes::{have_types, text_at};
 use crate::tree::{AggregateOp, BinaryOp, Matching, Side};
@@ -22,37 +21,11 @@ pub(crate) fn sign(shapes: &[Shape]) -> Option<Shape>
     }
 }
 
-fn is_set(op: BinaryOp) -> bool
-    ensures { result ≡ spec.is_set op }
-{
-    match op {
-        BinaryOp::And => true,
-        BinaryOp::Unless => true,
-        BinaryOp::Or => true,
-        _ => false,
-    }
-}
-
-#[tactic(auto, unfolding(crate::specs::Operators::is_comparison))]
-fn is_comparison(op: BinaryOp) -> bool
-    ensures { result ≡ operators.is_comparison op }
-{
-    match op {
-        BinaryOp::Eq => true,
-        BinaryOp::Ne => true,
-        BinaryOp::Gt => true,
-        BinaryOp::Lt => true,
-        BinaryOp::Ge => true,
-        BinaryOp::Le => true,
-        _ => false,
-    }
-}
-
 fn takes_scalars(op: BinaryOp, matching: &Option<Matching>) -> bool
     ensures { result ≡ spec.takes_scalars op matching.now }
 {
     match matching {
-        None => !is_set(op),
+        None => !op.is_set(),
         Some(_) => false,
     }
 }
@@ -62,7 +35,7 @@ fn may_match(op: BinaryOp, matching: &Option<Matching>) -> bool
 {
     match matching {
         None => true,
-        Some(m) => !(is_set(op) && has_side(&m.side))
+        Some(m) => !(op.is_set() && has_side(&m.side))
             && are_apart(m.on, m.labels.as_slice(), &m.side),
     }
 }
@@ -110,7 +83,7 @@ pub(crate) fn binary(
     ensures { result ≡ spec.binary_shape op boolean matching.now shapes.now }
 {
     if have_types(shapes, &[ExprType::Scalar, ExprType::Scalar]) {
-        if takes_scalars(op, matching) && (boolean || !is_comparison(op)) {
+        if takes_scalars(op, matching) && (boolean || !op.is_comparison()) {
             Some(Shape::Scalar)
         } else {
             None

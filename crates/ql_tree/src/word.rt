@@ -2,7 +2,7 @@ use crate::tree::AggregateOp;
 use op_base::{Span, Text};
 
 /// What a word means in the grammar, in any ASCII letter case. `Unused` are the reserved words that
-/// no tree spells, `Plain` is a word that isn't reserved.
+/// no tree spells, `Unreserved` is a word that isn't reserved.
 #[derive(Clone, Copy, Debug, PartialEq, Eq)]
 pub enum Keyword {
     And,
@@ -18,7 +18,7 @@ pub enum Keyword {
     GroupRight,
     Aggregate(AggregateOp),
     Unused,
-    Plain,
+    Unreserved,
 }
 
 /// A token as the grammar sees it, with its value: the number, the length of the duration, the word

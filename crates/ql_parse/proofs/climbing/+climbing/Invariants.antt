@@ -1,7 +1,7 @@
 -- Each call opens a bracket, or stands nearer to the words than its caller does.
 use Rattle.std.proofs.Common.{◌≡◌, ◌+◌, ◌-◌, ◌*◌, ◌≤◌, length, map, Some}
 use Rattle.ql_tree.specs.Children.{depth_of, greatest}
-use Rattle.ql_parse.specs.Climbing.{operand, chained}
+use Rattle.ql_parse.specs.Climbing.{IsDepth, operand, chained}
 use Rattle.ql_parse.specs.ReadTerms.{arguments}
 use Rattle.ql_parse.specs.Reading.{within}
 use Rattle.ql_parse.proofs.ListSteps.{with_all}
@@ -46,24 +46,22 @@ decreases-operands l = 1000 * l.room + 15
 -- the levels so far are read
 abbrev pub invariant-level-loop-k : goal.invariant-level-loop-k
 invariant-level-loop-k l = record {
-  read : operand l.k l.room l.limit l.words ≡ Some (l.found.0, l.rest);
-  depth : l.found.1 ≡ depth_of l.found.0;
-  fits : l.found.1 ≤ l.limit;
+  read : operand l.k l.room l.limit l.words ≡ Some (l.found.0, l.behind);
+  depth : IsDepth l.limit l.found.0 l.found.1;
 }
 
 -- the operators that are left give what all do
 abbrev pub invariant-chain-loop-step : goal.invariant-chain-loop-step
 invariant-chain-loop-step l = record {
-  read : chained l.below l.room l.limit (length l.words - l.step) l.found.0 l.rest
+  read : chained l.below l.room l.limit (length l.words - l.step) l.found.0 l.behind
       ≡ chained l.below l.room l.limit (length l.words) l.initial.found.0 l.words;
-  depth : l.found.1 ≡ depth_of l.found.0;
-  fits : l.found.1 ≤ l.limit;
+  depth : IsDepth l.limit l.found.0 l.found.1;
 }
 
 -- the arguments so far and those that are left are all
 abbrev pub invariant-arguments-loop-step : goal.invariant-arguments-loop-step
 invariant-arguments-loop-step l = record {
-  read : with_all l.args (arguments (length l.words - l.step) (within l.room l.limit) l.rest)
+  read : with_all l.args (arguments (length l.words - l.step) (within l.room l.limit) l.behind)
       ≡ arguments (length l.words) (within l.room l.limit) l.words;
   depth : l.depth ≡ greatest (map depth_of l.args);
 }

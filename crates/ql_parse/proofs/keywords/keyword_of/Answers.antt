@@ -11,5 +11,5 @@ returns-then-is_reserved c =
     c.unwrap_or.ensures ∙ ap (λ o. unwrap_or o keyword.Unused) c.found_in.ensures
     ∙ sym (ap (λ t. cond t
     (unwrap_or (found_in (str_eq_ignore_ascii_case c.args.text.now) keywords) keyword.Unused)
-    keyword.Plain)
+    keyword.Unreserved)
     (sym c.is_reserved.ensures ∙ c.if-is_reserved.true))

@@ -6,9 +6,9 @@ use Rattle.ql_parse.proofs.unescaped.inside.Given as goal
 
 abbrev pub invariant-loop-text : goal.invariant-loop-text
 invariant-loop-text l = record {
-  value : value_from l.quote 0 l.bytes ≡ behind l.text.items (value_from l.quote 0 l.rest);
-  utf8 : IsUtf8 (l.text.items ++ l.rest);
+  value : value_from l.quote 0 l.bytes ≡ behind l.text.items (value_from l.quote 0 l.behind);
+  utf8 : IsUtf8 (l.text.items ++ l.behind);
 }
 
 abbrev pub decreases-loop-text : goal.decreases-loop-text
-decreases-loop-text l = length l.rest
+decreases-loop-text l = length l.behind

@@ -1,5 +1,5 @@
 use Rattle.std.proofs.Common.{arith}
-use Rattle.ql_parse.proofs.UnescapeLemmas.{at_end, at_close, at_raw, at_newline, at_plain}
+use Rattle.ql_parse.proofs.UnescapeLemmas.{at_end, at_close, at_raw, at_newline, at_unescaped}
 use Rattle.ql_parse.proofs.unescaped.next.Goals as goal
 
 pub returns-in-empty : goal.returns-in-empty
@@ -20,5 +20,5 @@ returns-then-b-eq10 c =
 
 pub returns-else-b-eq92 : goal.returns-else-b-eq92
 returns-else-b-eq92 c =
-    at_plain c.args.quote c.args.bytes.now (omega arith) c.if-b-quote.false c.if-quote-eq96.false
+    at_unescaped c.args.quote c.args.bytes.now (omega arith) c.if-b-quote.false c.if-quote-eq96.false
     c.if-b-eq10.false c.if-b-eq92.false

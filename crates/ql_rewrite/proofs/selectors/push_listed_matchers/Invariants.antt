@@ -1,7 +1,7 @@
 use Rattle.std.proofs.Common.{◌≡◌, ◌++◌, drop, codes, if◌then◌else◌}
 use Rattle.std.specs.List.{flat_map, join_by}
 use Rattle.ql_tree.specs.Pieces.{text_of}
-use Rattle.ql_tree.specs.Printed.{matcher_pieces}
+use Rattle.ql_tree.specs.PrintedParts.{matcher_pieces}
 use Rattle.ql_rewrite.proofs.selectors.push_listed_matchers.Given as goal
 
 abbrev pub invariant-loop-m : goal.invariant-loop-m
