@@ -94,7 +94,9 @@ pub(crate) fn grouped<'a>(
 {
     let (param, of, depth) = operands;
     match grouping_behind(alloc, room, before, words) {
-        Ok((grouping, behind)) => { aggregated(alloc, limit, op, grouping, (param, of, depth), behind) }
+        Ok((grouping, behind)) => {
+            aggregated(alloc, limit, op, grouping, (param, of, depth), behind)
+        }
         Err(fault) => {
             discard(of);
             Err(fault)

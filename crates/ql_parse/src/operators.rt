@@ -31,9 +31,5 @@ fn operator_at(level: usize, word: &Word) -> Option<BinaryOp>
 fn of_level(level: usize, op: BinaryOp) -> Option<BinaryOp>
     ensures { result ≡ fronts.of_level level op }
 {
-    if op.level() == level {
-        Some(op)
-    } else {
-        None
-    }
+    if op.level() == level { Some(op) } else { None }
 }

@@ -5,7 +5,7 @@ use Rattle.std.specs.Str.Parse.{digits_value}
 use Rattle.std.proofs.lemmas.List.{drop-drop}
 use Rattle.std.proofs.lemmas.List.Sums.{take_while-cons}
 use Rattle.op_base.specs.Names.{is_digit, is_metric_start, is_metric_byte, is_metric_name}
-use Rattle.op_base.specs.Spans.{longest, span_read, span_within}
+use Rattle.op_base.specs.Spans.{longest, span_within}
 use Rattle.op_base.specs.Spans as spans
 use Rattle.ql_tree.specs.Durations.{is_duration, duration_of, span_or_none}
 use Rattle.ql_tree.specs.Strings.{is_quote, inside_from}

@@ -1,7 +1,6 @@
 -- How the verdicts of the children make that of their parent.
-use Rattle.std.proofs.Common.{◌≡◌, ℕ, zero, suc, ◌+◌, ◌<◌, ◌≤◌, List, [], ◌∷◌, ◌++◌, Some, None, Ok, Err, map, max, length, slice_get, get_or, ◌*◌, refl, ap, sym, ◌∙◌, arith, zero-add, ◌-◌, length-append}
-use Rattle.std.proofs.lemmas.Option.{slice_get_within, slice_get_read}
-use Rattle.std.proofs.lemmas.List.{map-append}
+use Rattle.std.proofs.Common.{◌≡◌, ℕ, zero, suc, ◌+◌, ◌<◌, ◌≤◌, List, [], ◌∷◌, ◌++◌, Some, None, Ok, Err, map, length, slice_get, refl, ap, sym, ◌∙◌, arith, zero-add, ◌-◌, length-append}
+use Rattle.std.proofs.lemmas.Option.{slice_get_within}
 use Rattle.ql_tree.specs.Children.{children_of, greatest, depth_of}
 use Rattle.ql_tree.specs.Typed.{rule_of}
 use Rattle.ql_tree.specs.Untyped.{verdict_of, node_verdict, verdicts_from, and_shapes, here}

@@ -1,5 +1,5 @@
 -- Each call opens a bracket, or stands nearer to the words than its caller does.
-use Rattle.std.proofs.Common.{◌≡◌, ◌+◌, ◌-◌, ◌*◌, ◌≤◌, length, map, Some}
+use Rattle.std.proofs.Common.{◌≡◌, ◌+◌, ◌-◌, ◌*◌, length, map, Some}
 use Rattle.ql_tree.specs.Children.{depth_of, greatest}
 use Rattle.ql_parse.specs.Climbing.{IsDepth, operand, chained}
 use Rattle.ql_parse.specs.ReadTerms.{arguments}
