@@ -1,16 +1,16 @@
 use op_base::{List, Span, Tags, Text};
-use op_relabel::Step;
+use op_relabel::CheckedSteps;
 
-/// What one job of Prometheus scrapes, and how.
+/// What one job of Prometheus scrapes, and how. Each of its steps has a pattern.
 #[derive(Debug, PartialEq, Eq, Drop)]
 pub struct Job {
     pub honor_labels: bool,
     pub job_name: Text,
     /// The steps that each sample's labels go through.
-    pub metric_relabel_configs: List<Step>,
+    pub metric_relabel_configs: CheckedSteps,
     pub metrics_path: Text,
     /// The steps that each target's labels go through.
-    pub relabel_configs: List<Step>,
+    pub relabel_configs: CheckedSteps,
     pub scheme: Text,
     pub scrape_interval: Span,
     pub scrape_timeout: Span,

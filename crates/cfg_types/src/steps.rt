@@ -4,9 +4,9 @@ ghost use Rattle.op_json.specs.Json.{data_of, array_of, members_after, fields_of
 ghost use Rattle.cfg_types.specs.Steps as spec;
 
 use crate::texts::{put_list, put_text_unless};
-use op_base::{List, NoMemory};
+use op_base::NoMemory;
 use op_json::{push_item, put_field, put_text};
-use op_relabel::{Action, Step};
+use op_relabel::{Action, CheckedSteps, Step};
 use serde_json::{Map, Value};
 use std::alloc::Global;
 
@@ -15,7 +15,7 @@ pub(crate) fn put_steps(
     fields: &mut Map<String, Value>,
     alloc: Global,
     name: &str,
-    steps: &List<Step>,
+    steps: &CheckedSteps,
 ) -> Result<(), NoMemory>
     ensures { OnOk result (shown.members_view fields.new.entries
         ≡ members_after (shown.members_view fields.old.entries) (fields_of (spec.steps_field name.now steps.now))) }
@@ -27,7 +27,7 @@ pub(crate) fn put_steps(
     put_field(fields, alloc, name, value)
 }
 
-fn steps_array(alloc: Global, steps: &List<Step>) -> Result<Value, NoMemory>
+fn steps_array(alloc: Global, steps: &CheckedSteps) -> Result<Value, NoMemory>
     ensures { IfOk result (λ value. shown.view value ≡ data_of (array_of (map spec.step_json steps.now))) }
 {
     Ok(Value::Array(step_values(alloc, steps.as_slice())?))

@@ -1,17 +1,8 @@
 -- The fields of a JSON value. A field that is null counts as absent, under whatever name.
-use Rattle.std.specs.Prelude.{ℕ, List, [], ◌∷◌, Bool, Option, Some, None, ◌==◌, ◌||◌, option_and_then, is_some, if◌then◌else◌}
-use Rattle.std.specs.List.{list_any}
-use Rattle.std.specs.Cmp.Lexicographic.{pointwise}
-use Rattle.serde_json.specs.Data.{Data, Items, no_items, item, Members, no_members, member}
-use Rattle.serde_json.specs.Find.{get, as_null, as_array, as_object}
-
--- the same bytes
-abbrev pub is_text : List ℕ → List ℕ → Bool
-is_text these those = pointwise ◌==◌ these those
-
--- the value is null
-abbrev pub is_null : Data → Bool
-is_null d = is_some (as_null d)
+use Rattle.std.specs.Prelude.{ℕ, List, [], ◌∷◌, Option, Some, None, option_and_then, is_some, if◌then◌else◌}
+use Rattle.serde_json.specs.Data.{Data, Items, no_items, item}
+use Rattle.serde_json.specs.Find.{get, as_array, as_object}
+use Rattle.op_json.specs.Reading.{is_null, stray}
 
 -- the value, where it isn't null
 abbrev pub given : Data → Option Data
@@ -20,15 +11,6 @@ given d = if is_null d then None else Some d
 -- the value of the object's field, where it isn't null
 abbrev pub field : List ℕ → Data → Option Data
 field name d = option_and_then given (get name d)
-
--- a member may stand where it is null or has one of the names
-abbrev pub may_stand : List (List ℕ) → List ℕ → Data → Bool
-may_stand names name d = is_null d || list_any (is_text name) names
-
--- the name of the first member that may not stand
-abbrev pub stray : List (List ℕ) → Members → Option (List ℕ)
-stray names no_members = None
-stray names (member name d ms) = if may_stand names name d then stray names ms else Some name
 
 -- the value of the field in an object where no other stands
 abbrev pub only_field : List ℕ → Data → Option Data

@@ -2,15 +2,15 @@
 -- as absent.
 use Rattle.std.specs.Prelude.{ℕ, List, [], Bool, Option, Some, None, Ok, Err, ◌==◌, ◌||◌, codes, is_some, if◌then◌else◌}
 use Rattle.std.specs.List.{list_all}
-use Rattle.std.specs.Str.{is_utf8}
 use Rattle.serde_json.specs.Data.{Data}
 use Rattle.serde_json.specs.Find.{as_number}
-use Rattle.serde_json.specs.Read.{read}
+use Rattle.op_base.specs.Moments.{IsTick}
+use Rattle.op_json.specs.Reading.{json_of}
 use Rattle.op_input.specs.declared.line.InputLine.{InputLine}
 use Rattle.op_input.specs.declared.line.InputLine.TheVariants.{Page, Tick, NotYet, Bad}
 use Rattle.op_input.specs.declared.shape.TheConstants.ShapeRule.{NOT_JSON, UNKNOWN_KIND, WRONG_TYPE, BAD_NUMBER}
 use Rattle.op_input.specs.Fields.{only_field}
-use Rattle.op_input.specs.Numbers.{moment_of, IsTickMoment}
+use Rattle.op_input.specs.Numbers.{moment_of}
 use Rattle.op_input.specs.Pages.{page_of}
 use Rattle.op_input.specs.Shapes.{Reading, broken, and_then, required}
 
@@ -60,10 +60,6 @@ abbrev pub line_of_json : Option Data → InputLine
 line_of_json None = Bad (broken NOT_JSON [])
 line_of_json (Some d) = line_by_key d (only_field (codes "page") d)
 
--- the JSON value that bytes are, if they are UTF-8 and JSON
-abbrev pub json_of : List ℕ → Option Data
-json_of bytes = if is_utf8 bytes then read bytes else None
-
 -- the line of its bytes
 abbrev pub line_of : List ℕ → InputLine
 line_of bytes = line_of_json (json_of bytes)
@@ -71,6 +67,6 @@ line_of bytes = line_of_json (json_of bytes)
 -- a tick's moment is within the limits of moments
 abbrev pub IsWithin : InputLine → Type 0
 IsWithin (Page url samples) = Unit {0}
-IsWithin (Tick moment) = IsTickMoment moment
+IsWithin (Tick moment) = IsTick moment
 IsWithin NotYet = Unit {0}
 IsWithin (Bad shape) = Unit {0}

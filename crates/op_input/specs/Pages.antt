@@ -6,7 +6,8 @@ use Rattle.srv_scrape.specs.declared.pages.Sample.{Sample}
 use Rattle.op_input.specs.declared.shape.TheConstants.ShapeRule.{WRONG_TYPE, MISSING, UNKNOWN_FIELD}
 use Rattle.op_input.specs.declared.line.InputLine.{InputLine}
 use Rattle.op_input.specs.declared.line.InputLine.TheVariants.{Page}
-use Rattle.op_input.specs.Fields.{field, stray}
+use Rattle.op_json.specs.Reading.{stray}
+use Rattle.op_input.specs.Fields.{field}
 use Rattle.op_input.specs.Samples.{sample_of}
 use Rattle.op_input.specs.Shapes.{Reading, breach, and_then, required}
 

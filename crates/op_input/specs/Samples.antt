@@ -4,27 +4,25 @@ use Rattle.std.specs.Prelude.{ℕ, ℤ, List, [], ◌∷◌, Bool, Ok, ◌==◌,
 use Rattle.std.specs.List.{starts_with}
 use Rattle.serde_json.specs.Data.{Data, Members, no_members, member}
 use Rattle.serde_json.specs.Find.{as_str, as_number, as_i64, as_object}
+use Rattle.op_base.specs.declared.label_names.TheConstants.{METRIC_NAME}
 use Rattle.op_base.specs.Labels.{Texts, labels_with}
 use Rattle.op_base.specs.Names.{is_metric_name, is_label_name}
 use Rattle.srv_scrape.specs.declared.pages.Sample.{Sample}
 use Rattle.op_input.specs.declared.shape.TheConstants.ShapeRule.{WRONG_TYPE, MISSING, BAD_NUMBER, BAD_LABEL}
-use Rattle.op_input.specs.Fields.{is_text, is_null, field, pair}
+use Rattle.op_json.specs.Reading.{is_text, is_null}
+use Rattle.op_input.specs.Fields.{field, pair}
 use Rattle.op_input.specs.Shapes.{Reading, breach, and_then, required, sample_path, labels_path, label_path, value_path}
-
--- the label that is the metric's name
-abbrev pub METRIC : List ℕ
-METRIC = codes "__name__"
 
 -- the text of the metric's name: an empty one is missing
 abbrev pub metric_text : ℕ → List ℕ → Reading (List ℕ)
-metric_text index [] = breach MISSING (label_path index METRIC)
-metric_text index (b ∷ name) = if is_metric_name (b ∷ name) then Ok (b ∷ name) else breach BAD_LABEL (label_path index METRIC)
+metric_text index [] = breach MISSING (label_path index METRIC_NAME.now)
+metric_text index (b ∷ name) = if is_metric_name (b ∷ name) then Ok (b ∷ name) else breach BAD_LABEL (label_path index METRIC_NAME.now)
 
 -- the metric's name: a field that has to stand, a text
 abbrev pub metric_of : ℕ → Data → Reading (List ℕ)
 metric_of index labels =
-    and_then (required MISSING (label_path index METRIC) (field METRIC labels)) (λ value.
-    and_then (required WRONG_TYPE (label_path index METRIC) (as_str value))
+    and_then (required MISSING (label_path index METRIC_NAME.now) (field METRIC_NAME.now labels)) (λ value.
+    and_then (required WRONG_TYPE (label_path index METRIC_NAME.now) (as_str value))
     (metric_text index))
 
 -- a label's name, which doesn't begin with `__`
@@ -44,7 +42,7 @@ with_label index labels name value =
 
 -- a member that is null, and the metric's name, which was read before, are passed over
 abbrev pub is_passed : List ℕ → Data → Bool
-is_passed name value = is_null value || is_text name METRIC
+is_passed name value = is_null value || is_text name METRIC_NAME.now
 
 -- the labels with a member of an object
 abbrev pub with_member : ℕ → Texts → List ℕ → Data → Reading Texts
@@ -62,7 +60,7 @@ abbrev pub labels_of : ℕ → Data → Reading Texts
 labels_of index d =
     and_then (required WRONG_TYPE (labels_path index) (as_object d)) (λ ms.
     and_then (metric_of index d) (λ name.
-    with_members index (labels_with [] METRIC name) ms))
+    with_members index (labels_with [] METRIC_NAME.now name) ms))
 
 -- the value: a whole number that 64 bits with a sign hold
 abbrev pub value_of : ℕ → Data → Reading ℤ

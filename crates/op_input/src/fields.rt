@@ -1,9 +1,9 @@
-ghost use Rattle.std.specs.Prelude.{◌≡◌, map, option_map};
-ghost use Rattle.std.specs.List.{list_any};
-ghost use Rattle.serde_json.specs.View.{view, members_view, items_view};
+ghost use Rattle.std.specs.Prelude.{◌≡◌, option_map};
+ghost use Rattle.serde_json.specs.View.{view, items_view};
 ghost use Rattle.op_input.specs.Fields as spec;
 
-use serde_json::{Map, Value};
+use op_json::stray;
+use serde_json::Value;
 
 /// The value of the field, where it isn't null.
 pub fn field<'a>(value: &'a Value, name: &str) -> Option<&'a Value>
@@ -16,31 +16,6 @@ fn given(value: &Value) -> Option<&Value>
     ensures { option_map (λ v. view v.now) result ≡ spec.given (view value.now) }
 {
     if value.is_null() { None } else { Some(value) }
-}
-
-/// The first member that isn't null and has none of the names.
-pub fn stray<'a>(members: &'a Map<String, Value>, names: &[&str]) -> Option<&'a str>
-    ensures { option_map (λ name. name.now) result
-        ≡ spec.stray (map (λ name. name.now) names.now) (members_view members.now.entries) }
-{
-    for (name, value) in members {
-        if !may_stand(name.as_str(), value, names) {
-            return Some(name.as_str());
-        }
-    }
-    None
-}
-
-fn may_stand(name: &str, value: &Value, names: &[&str]) -> bool
-    ensures { result ≡ spec.may_stand (map (λ name. name.now) names.now) name.now (view value.now) }
-{
-    value.is_null() || is_among(name, names)
-}
-
-fn is_among(name: &str, names: &[&str]) -> bool
-    ensures { result ≡ list_any (λ one. spec.is_text name.now one.now) names.now }
-{
-    names.iter().any(|one| name == *one)
 }
 
 /// The value of the key, where no other member of the object stands.

@@ -1,4 +1,4 @@
-ghost use Rattle.std.specs.Prelude.{◌≡◌, option_map, codes, IfOk};
+ghost use Rattle.std.specs.Prelude.{◌≡◌, codes, IfOk};
 ghost use Rattle.serde_json.specs.View.{view};
 ghost use Rattle.op_input.specs.Fields as fields;
 ghost use Rattle.op_input.specs.Lines as spec;
@@ -9,6 +9,7 @@ use crate::number::moment;
 use crate::page::page_line;
 use crate::shape::{Shape, ShapeRule, at_whole};
 use op_base::{List, Moment, NoMemory, Text};
+use op_json::read_json;
 use serde_json::Value;
 use srv_scrape::Sample;
 use std::alloc::Global;
@@ -50,22 +51,6 @@ pub fn read_line(alloc: Global, bytes: &[u8]) -> Result<InputLine, NoMemory>
     match read_json(alloc, bytes)? {
         Some(value) => line_of(alloc, &value),
         None => Ok(InputLine::Bad(at_whole(alloc, ShapeRule::NOT_JSON))),
-    }
-}
-
-// The JSON value, or none where the bytes aren't JSON.
-fn read_json(alloc: Global, bytes: &[u8]) -> Result<Option<Value>, NoMemory>
-    ensures { IfOk result (λ value. option_map view value ≡ spec.json_of bytes.now) }
-{
-    match Value::from_slice(alloc, bytes) {
-        Ok(value) => Ok(Some(value)),
-        Err(error) => {
-            if error.is_memory() {
-                Err(NoMemory)
-            } else {
-                Ok(None)
-            }
-        }
     }
 }
 

@@ -1,14 +1,15 @@
 ghost use Rattle.std.specs.Prelude.{◌≡◌, IfSome};
 ghost use Rattle.serde_json.specs.View.{number_view};
+ghost use Rattle.op_base.specs.Moments.{IsTick};
 ghost use Rattle.op_input.specs.Numbers as spec;
 
-use op_base::Moment;
+use op_base::{LAST_MOMENT, Moment};
 use serde_json::Number;
 
 /// The moment that a tick's number is: a whole number from 0 to 2^53.
 pub fn moment(number: &Number) -> Option<Moment>
     ensures moment { result ≡ spec.moment_of (number_view number.now) }
-    ensures within { IfSome result spec.IsTickMoment }
+    ensures within { IfSome result IsTick }
 {
     match number.as_u64() {
         Some(n) => within(n),
@@ -18,9 +19,9 @@ pub fn moment(number: &Number) -> Option<Moment>
 
 fn within(n: u64) -> Option<Moment>
     ensures moment { result ≡ spec.moment_within n }
-    ensures within { IfSome result spec.IsTickMoment }
+    ensures within { IfSome result IsTick }
 {
-    if n <= 9_007_199_254_740_992 {
+    if n <= LAST_MOMENT {
         Some(Moment(n as i64))
     } else {
         None

@@ -2,11 +2,12 @@ ghost use Rattle.std.specs.Prelude.{◌≡◌, option_map, codes, IfOk};
 ghost use Rattle.serde_json.specs.View.{view, items_view};
 ghost use Rattle.op_input.specs.Pages as spec;
 
-use crate::fields::{field, stray};
+use crate::fields::field;
 use crate::line::InputLine;
 use crate::sample::sample;
 use crate::shape::{Shape, ShapeRule, at_field, at_whole};
 use op_base::{List, NoMemory, Text};
+use op_json::stray;
 use serde_json::Value;
 use srv_scrape::Sample;
 use std::alloc::Global;

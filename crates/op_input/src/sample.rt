@@ -1,11 +1,11 @@
-ghost use Rattle.std.specs.Prelude.{◌≡◌, [], codes, IfOk};
+ghost use Rattle.std.specs.Prelude.{◌≡◌, [], IfOk};
 ghost use Rattle.serde_json.specs.View.{view, members_view};
 ghost use Rattle.op_base.specs.Labels.{labels_with};
 ghost use Rattle.op_input.specs.Samples as spec;
 
 use crate::fields::{field, pair};
 use crate::shape::{Shape, ShapeRule, at_label, at_labels, at_sample, at_value};
-use op_base::{Labels, NoMemory, Text, is_label_name, is_metric_name};
+use op_base::{Labels, METRIC_NAME, NoMemory, Text, is_label_name, is_metric_name};
 use serde_json::{Map, Value};
 use srv_scrape::Sample;
 use std::alloc::Global;
@@ -69,22 +69,22 @@ fn named(
     members: &Map<String, Value>,
 ) -> Result<Result<Labels, Shape>, NoMemory>
     ensures { IfOk result (λ labels. labels
-        ≡ spec.with_members index (labels_with [] (codes "__name__") name.now) (members_view members.now.entries)) }
+        ≡ spec.with_members index (labels_with [] METRIC_NAME.now name.now) (members_view members.now.entries)) }
 {
     let mut labels = Labels::new(alloc);
-    labels.set("__name__", name.as_str())?;
+    labels.set(METRIC_NAME, name.as_str())?;
     with_members(alloc, index, labels, members)
 }
 
 fn metric(alloc: Global, index: usize, labels: &Value) -> Result<Result<Text, Shape>, NoMemory>
     ensures { IfOk result (λ name. name ≡ spec.metric_of index (view labels.now)) }
 {
-    match field(labels, "__name__") {
+    match field(labels, METRIC_NAME) {
         Some(value) => match value.as_str() {
             Some(name) => metric_text(alloc, index, name),
-            None => Ok(Err(at_label(alloc, ShapeRule::WRONG_TYPE, index, "__name__")?)),
+            None => Ok(Err(at_label(alloc, ShapeRule::WRONG_TYPE, index, METRIC_NAME)?)),
         },
-        None => Ok(Err(at_label(alloc, ShapeRule::MISSING, index, "__name__")?)),
+        None => Ok(Err(at_label(alloc, ShapeRule::MISSING, index, METRIC_NAME)?)),
     }
 }
 
@@ -92,12 +92,12 @@ fn metric_text(alloc: Global, index: usize, name: &str) -> Result<Result<Text, S
     ensures { IfOk result (λ text. text ≡ spec.metric_text index name.now) }
 {
     if name.is_empty() {
-        return Ok(Err(at_label(alloc, ShapeRule::MISSING, index, "__name__")?));
+        return Ok(Err(at_label(alloc, ShapeRule::MISSING, index, METRIC_NAME)?));
     }
     if is_metric_name(name) {
         Ok(Ok(Text::from_str(alloc, name)?))
     } else {
-        Ok(Err(at_label(alloc, ShapeRule::BAD_LABEL, index, "__name__")?))
+        Ok(Err(at_label(alloc, ShapeRule::BAD_LABEL, index, METRIC_NAME)?))
     }
 }
 
@@ -153,7 +153,7 @@ fn with_label(
 fn is_passed(name: &str, value: &Value) -> bool
     ensures { result ≡ spec.is_passed name.now (view value.now) }
 {
-    value.is_null() || name == "__name__"
+    value.is_null() || name == METRIC_NAME
 }
 
 fn is_plain_label(name: &str) -> bool

@@ -1,5 +1,5 @@
 -- What the steps that copy a label or put a value do, alone and before other steps.
-use Rattle.std.proofs.Common.{◌≡◌, ℕ, Bool, true, not, ◌==◌, List, [], ◌∷◌, ◌++◌, cond, Option, Some, None, option_and_then, refl, ap, ◌∙◌, append-nil}
+use Rattle.std.proofs.Common.{◌≡◌, ℕ, Bool, true, List, [], ◌∷◌, ◌++◌, cond, Option, Some, None, option_and_then, refl, ap, ◌∙◌, append-nil}
 use Rattle.std.specs.List.{list_all}
 use Rattle.std.specs.Cmp.{first_so, second_so}
 use Rattle.regex.specs.Templates.{written_after, name_at, group_called, number_in}
@@ -7,12 +7,8 @@ use Rattle.op_base.specs.Labels.{Texts, labels_with}
 use Rattle.op_base.specs.Matchers.{label_value}
 use Rattle.op_base.specs.Patterns.{IsPattern, written_whole}
 use Rattle.op_relabel.specs.declared.step.Step.{Step}
-use Rattle.op_relabel.specs.Steps.{default_pattern, default_replacement, copy_step, put_step}
+use Rattle.op_relabel.specs.Steps.{default_pattern, default_replacement, is_no_dollar, copy_step, put_step}
 use Rattle.op_relabel.specs.Relabelled.{after_step, relabelled, HasPatterns, step_text}
-
--- the byte isn't `$`
-abbrev pub is_no_dollar : ℕ → Bool
-is_no_dollar b = not (b == 36)
 
 taken : {A : Type 0} (t : Bool) (a b : A) → t ≡ true → cond t a b ≡ a
 taken t a b is = ap (λ x. cond x a b) is
@@ -70,13 +66,7 @@ relabelled-append (step ∷ steps) more labels = rest (relabelled-append steps m
     rest alike None = refl
     rest alike (Some left) = alike left
 
--- the patterns of these steps, and of steps in two runs
-pub HasPatterns-put : (target value : List ℕ) (steps : List Step) → HasPatterns steps → HasPatterns (put_step target value ∷ steps)
-HasPatterns-put target value steps have = (default-pattern, have)
-
-pub HasPatterns-copy : (source target : List ℕ) (steps : List Step) → HasPatterns steps → HasPatterns (copy_step source target ∷ steps)
-HasPatterns-copy source target steps have = (default-pattern, have)
-
-pub HasPatterns-append : (steps more : List Step) → HasPatterns steps → HasPatterns more → HasPatterns (steps ++ more)
-HasPatterns-append [] more have rest = rest
-HasPatterns-append (step ∷ steps) more have rest = (have.0, HasPatterns-append steps more have.1 rest)
+-- steps with patterns, and one more
+pub patterns_and_one : (steps : List Step) (step : Step) → HasPatterns steps → IsPattern step.pattern → HasPatterns (steps ++ step ∷ [])
+patterns_and_one [] step have is = (is, tt)
+patterns_and_one (first ∷ steps) step have is = (have.0, patterns_and_one steps step have.1 is)

@@ -1,6 +1,6 @@
 -- The defaults of a relabelling step, after the Prometheus documentation, and two steps of which
 -- all else is the default: one copies a label, one puts a value.
-use Rattle.std.specs.Prelude.{ℕ, List, [], ◌∷◌, codes}
+use Rattle.std.specs.Prelude.{ℕ, List, [], ◌∷◌, Bool, not, ◌==◌, codes}
 use Rattle.op_relabel.specs.declared.step.Step.{Step}
 use Rattle.op_relabel.specs.declared.step.Action.TheVariants.{Replace}
 
@@ -15,6 +15,10 @@ default_pattern = codes "(.*)"
 -- what the default pattern captured
 abbrev pub default_replacement : List ℕ
 default_replacement = codes "$1"
+
+-- the byte isn't `$`, which begins a reference in a replacement
+abbrev pub is_no_dollar : ℕ → Bool
+is_no_dollar b = not (b == 36)
 
 -- no modulus
 abbrev pub default_modulus : ℕ

@@ -2,6 +2,7 @@ ghost use Rattle.std.specs.Prelude.{◌≡◌, IfOk};
 ghost use Rattle.op_base.specs.Patterns.{IsPattern, pattern_expands};
 ghost use Rattle.op_relabel.specs.Relabelled.{HasPatterns};
 
+use crate::checked::CheckedSteps;
 use crate::step::Step;
 use op_base::{List, NoMemory, Pattern, PatternFault, Text};
 use std::alloc::Global;
@@ -50,14 +51,20 @@ impl<'a> PreparedStep<'a> {
 }
 
 /// The steps, each with its pattern.
-pub fn prepare<'a>(alloc: Global, steps: &'a List<Step>) -> Result<List<PreparedStep<'a>>, NoMemory>
-    requires { HasPatterns steps.now }
+pub fn prepare<'a>(
+    alloc: Global,
+    steps: &'a CheckedSteps,
+) -> Result<List<PreparedStep<'a>>, NoMemory>
     ensures { IfOk result (λ prepared. prepared ≡ steps.now) }
 {
     all_prepared(alloc, steps.as_slice())
 }
 
-fn all_prepared<'a>(alloc: Global, steps: &'a [Step]) -> Result<List<PreparedStep<'a>>, NoMemory>
+// The same of steps that are known to have patterns.
+pub(crate) fn all_prepared<'a>(
+    alloc: Global,
+    steps: &'a [Step],
+) -> Result<List<PreparedStep<'a>>, NoMemory>
     requires { HasPatterns steps.now }
     ensures { IfOk result (λ prepared. prepared ≡ steps.now) }
 {

@@ -3,7 +3,7 @@ ghost use Rattle.std.specs.List.{flat_map};
 ghost use Rattle.op_base.specs.Labels.{labels_with};
 ghost use Rattle.op_relabel.specs.Relabelled as spec;
 
-use crate::prepared::{PreparedStep, prepare};
+use crate::prepared::{PreparedStep, all_prepared};
 use crate::step::{Action, Step};
 use op_base::{Labels, List, NoMemory, Text};
 use std::alloc::Global;
@@ -18,7 +18,7 @@ pub fn relabel(
     requires { spec.HasPatterns steps.now }
     ensures { IfOk result (λ left. left ≡ spec.relabelled steps.now labels.now) }
 {
-    relabel_by(alloc, &prepare(alloc, steps)?, labels)
+    relabel_by(alloc, &all_prepared(alloc, steps.as_slice())?, labels)
 }
 
 /// The label set that prepared steps leave.

@@ -11,9 +11,8 @@ use Rattle.op_report.proofs.ReadBackLemmas.{read_back, last_line}
 use Rattle.op_report.proofs.CleanLemmas.{json_clean, json_object_begins}
 use Rattle.cfg_types.specs.Written.{config_json}
 use Rattle.op_thin.specs.Compiled.{config_of}
-use Rattle.op_thin.specs.Items.{item_of}
 use Rattle.op_thin.proofs.NamedLemmas.{named}
-use Rattle.tenant_world.specs.Events.{Event, HaveNames, given}
+use Rattle.tenant_world.specs.Events.{ReadEvent, HaveNames, given}
 use Rattle.tenant_world.specs.Runs.{beginning}
 use Rattle.tenant_world.proofs.EventLaws.{isolated}
 use Rattle.op_run.specs.declared.files.NamedFile.{NamedFile}
@@ -22,7 +21,7 @@ use Rattle.op_run.specs.Headline.{Headline}
 use Rattle.op_run.specs.Outputs.{present, final_text, run_reports, run_text}
 use Rattle.op_run.proofs.NamedRunLemmas.{run_named}
 
-names-append : (xs ys : List Event) → HaveNames xs → HaveNames ys → HaveNames (xs ++ ys)
+names-append : (xs ys : List ReadEvent) → HaveNames xs → HaveNames ys → HaveNames (xs ++ ys)
 names-append [] ys p q = q
 names-append (x ∷ xs) ys p q = (p.0, names-append xs ys p.1 q)
 
@@ -49,7 +48,7 @@ events_names files bytes =
     names-append (file_events files) (events_from 0 (shown_lines bytes)) (files_names files) (lines_names 0 (shown_lines bytes))
 
 -- the text of the objects present is one line
-final_clean : (events : List Event) → IsClean (final_text events)
+final_clean : (events : List ReadEvent) → IsClean (final_text events)
 final_clean events = json_clean (config_json (config_of (present events)))
 
 -- the value is an object
@@ -70,7 +69,7 @@ object_begins (json.array es) is = absurd is
 object_begins (json.object fs) is = json_object_begins fs
 
 -- it begins with its brace
-final_begins : (events : List Event) → BeginsObject (final_text events)
+final_begins : (events : List ReadEvent) → BeginsObject (final_text events)
 final_begins events = object_begins (config_json (config_of (present events))) tt
 
 -- what a run writes to its end has the lines of each tenant's own world, and the configuration as its last line

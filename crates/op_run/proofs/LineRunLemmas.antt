@@ -6,17 +6,17 @@ use Rattle.op_input.specs.Lines.{is_blank, line_of}
 use Rattle.op_thin.specs.Compiled.{config_of}
 use Rattle.op_thin.specs.Objects.{Present}
 use Rattle.srv_run.specs.Served.{Served}
-use Rattle.tenant_world.specs.Events.{Event, given}
+use Rattle.tenant_world.specs.Events.{ReadEvent, given}
 use Rattle.tenant_world.specs.Runs.{World, run, said, next, left_by, line_said, line_served}
 use Rattle.op_run.specs.Inputs.{line_events, events_from}
 use Rattle.op_run.specs.Lines.{served_by, said_by, all_said}
 
-pub run-append : (world : World) (xs ys : List Event) → run world (xs ++ ys) ≡ run world xs ++ run (left_by world xs) ys
+pub run-append : (world : World) (xs ys : List ReadEvent) → run world (xs ++ ys) ≡ run world xs ++ run (left_by world xs) ys
 run-append world [] ys = refl
 run-append world (x ∷ xs) ys = ap (λ l. said world x ++ l) (run-append (next world x) xs ys)
     ∙ sym (append_assoc (said world x) (run (next world x) xs) (run (left_by (next world x) xs) ys))
 
-pub left_by-append : (world : World) (xs ys : List Event) → left_by world (xs ++ ys) ≡ left_by (left_by world xs) ys
+pub left_by-append : (world : World) (xs ys : List ReadEvent) → left_by world (xs ++ ys) ≡ left_by (left_by world xs) ys
 left_by-append world [] ys = refl
 left_by-append world (x ∷ xs) ys = left_by-append (next world x) xs ys
 

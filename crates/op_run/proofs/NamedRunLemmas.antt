@@ -15,7 +15,7 @@ use Rattle.op_thin.specs.Items.{IsNamed}
 use Rattle.op_thin.specs.Objects.{is_taken}
 use Rattle.srv_run.specs.Served.{Served, AreKnown, late, tick_of}
 use Rattle.srv_run.proofs.KnownLemmas.{known-more, lines-named}
-use Rattle.tenant_world.specs.Events.{Event, manifest, given, long, HasNames, HaveNames}
+use Rattle.tenant_world.specs.Events.{ReadEvent, manifest, given, long, HasNames, HaveNames}
 use Rattle.tenant_world.specs.Runs.{World, run, said, next, item_report, after_item, known_after, tick_served, tick_said, line_served, line_said}
 
 pub named-append : (xs ys : List Report) → AreNamed xs → AreNamed ys → AreNamed (xs ++ ys)
@@ -41,7 +41,7 @@ line_named config served number (Tick t) known = tick_named config served number
 line_named config served number NotYetInput known = (tt, tt)
 line_named config served number (Bad shape) known = (tt, tt)
 
-said_named : (world : World) (event : Event) → AreKnown world.served.known → HasNames event → AreNamed (said world event)
+said_named : (world : World) (event : ReadEvent) → AreKnown world.served.known → HasNames event → AreNamed (said world event)
 said_named world (manifest file item) known names = (item_named file item (is_taken world.objects item) names, tt)
 said_named world (given number line) known names = line_named (config_of world.objects) world.served number line known
 said_named world (long number) known names = (tt, tt)
@@ -67,13 +67,13 @@ line_known config served (Tick t) known = tick_known config served t (late serve
 line_known config served NotYetInput known = known
 line_known config served (Bad shape) known = known
 
-next_known : (world : World) (event : Event) → AreKnown world.served.known → HasNames event → AreKnown (next world event).served.known
+next_known : (world : World) (event : ReadEvent) → AreKnown world.served.known → HasNames event → AreKnown (next world event).served.known
 next_known world (manifest file item) known names = taken_known world item (is_taken world.objects item) known names
 next_known world (given number line) known names = line_known (config_of world.objects) world.served line known
 next_known world (long number) known names = known
 
 -- each report of the events is named
-pub run_named : (world : World) (events : List Event) → AreKnown world.served.known → HaveNames events → AreNamed (run world events)
+pub run_named : (world : World) (events : List ReadEvent) → AreKnown world.served.known → HaveNames events → AreNamed (run world events)
 run_named world [] known names = tt
 run_named world (event ∷ events) known names =
     named-append (said world event) (run (next world event) events) (said_named world event known names.0)

@@ -6,17 +6,17 @@ use Rattle.op_report.specs.Lines.{NEWLINE}
 use Rattle.op_report.specs.ReadBack.{bytes_of}
 use Rattle.op_thin.specs.Compiled.{config_of}
 use Rattle.op_thin.specs.Objects.{Present}
-use Rattle.tenant_world.specs.Events.{Event}
+use Rattle.tenant_world.specs.Events.{ReadEvent}
 use Rattle.tenant_world.specs.Runs.{beginning, run, left_by}
 use Rattle.op_run.specs.declared.files.NamedFile.{NamedFile}
 use Rattle.op_run.specs.Inputs.{file_events, events_of}
 
 -- the objects that the events leave
-abbrev pub present : List Event → Present
+abbrev pub present : List ReadEvent → Present
 present events = (left_by beginning events).objects
 
 -- the text of their configuration, made from them alone
-abbrev pub final_text : List Event → List ℕ
+abbrev pub final_text : List ReadEvent → List ℕ
 final_text events = config_text (config_of (present events))
 
 -- the reports of the folder's files

@@ -2,7 +2,6 @@ ghost use Rattle.std.specs.Prelude.{◌≡◌, ◌++◌, ◌∷◌, [], IfOk};
 ghost use Rattle.op_report.specs.Lines.{NEWLINE};
 ghost use Rattle.cfg_types.specs.Written.{HasSpans, config_text};
 ghost use Rattle.op_thin.specs.Compiled.{config_of};
-ghost use Rattle.srv_run.specs.Served.{CanRun};
 
 use cfg_types::{Config, text};
 use op_base::{List, NoMemory};
@@ -12,7 +11,6 @@ use std::alloc::Global;
 /// The configuration of the objects present, and its text with a newline.
 pub fn configuration(alloc: Global, objects: Objects) -> Result<(Config, List<u8>), NoMemory>
     ensures config { IfOk result (λ made. made.0 ≡ config_of objects) }
-    ensures runs { IfOk result (λ made. CanRun made.0) }
     ensures text { IfOk result (λ made. made.1 ≡ config_text (config_of objects) ++ NEWLINE ∷ []) }
 {
     let config = compile_objects(alloc, objects)?;

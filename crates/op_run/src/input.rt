@@ -2,7 +2,7 @@ ghost use Rattle.std.specs.Prelude.{◌≡◌, ◌≤◌, ◌∷◌, [], IfOk, I
 ghost use Rattle.std.specs.Io.KnownBytes.{Appends};
 ghost use Rattle.op_edges.specs.Causes.{Rose};
 ghost use Rattle.op_edges.specs.Streams.{AppendsPrefix};
-ghost use Rattle.op_input.specs.Numbers.{IsTickMoment};
+ghost use Rattle.op_base.specs.Moments.{IsTick};
 ghost use Rattle.op_report.specs.ReadBack.{AreNamed, report_bytes};
 ghost use Rattle.tenant_world.specs.Runs as world;
 ghost use Rattle.op_input.specs.Lines.{IsWithin};
@@ -132,7 +132,7 @@ fn take_tick(
     t: Moment,
     server: &mut Server,
 ) -> Result<List<Report>, NoMemory>
-    requires { IsTickMoment t }
+    requires { IsTick t }
     ensures reports { IfOk result (λ reports. reports
         ≡ world.tick_said server.old.config server.old.served number t (late server.old.served.last t)) }
     ensures served { OnOk result (server.new.served

@@ -1,16 +1,14 @@
--- What each configuration has: spans of 0 or more, patterns that are patterns, and rule files that are
--- those of thin rules.
-use Rattle.std.proofs.Common.{ℕ, List, [], ◌∷◌, map, fold, codes, option_map}
+-- What each configuration has: spans of 0 or more, rules whose patterns are patterns, and rule files that
+-- are those of thin rules.
+use Rattle.std.proofs.Common.{ℕ, List, [], ◌∷◌, map, fold, option_map}
 use Rattle.std.specs.List.{AllByRecursion, filter_map, cons_option}
 use Rattle.std.specs.Int.Signed.{le_z_yes}
 use Rattle.std.specs.declared.cmp.Ordering.TheVariants.{Less, Equal, Greater}
 use Rattle.std.specs.Ordering.{nat_cmp}
 use Rattle.std.specs.Cmp.Lexicographic.{slice_cmp}
 use Rattle.std.specs.FinMap.Entries.{by_order}
+use Rattle.op_base.specs.declared.label_names.TheConstants.{NAMESPACE_LABEL}
 use Rattle.op_base.specs.Maps.{Map, values_of, with_entry}
-use Rattle.op_relabel.specs.Relabelled.{HasPatterns}
-use Rattle.op_relabel.specs.Steps.{put_step}
-use Rattle.op_relabel.proofs.RelabelLemmas.{default-pattern, HasPatterns-put}
 use Rattle.cfg_types.specs.declared.job.Job.{Job}
 use Rattle.cfg_types.specs.Jobs.{HasJobSpans}
 use Rattle.cfg_types.specs.Written.{HasSpans, file_text}
@@ -24,8 +22,8 @@ use Rattle.op_thin.specs.Judged.{judged_expr, IsTyped}
 use Rattle.op_thin.proofs.JudgedLemmas.{enforced_patterns}
 use Rattle.op_thin.specs.Objects.{Present, all_of}
 use Rattle.op_thin.specs.FileOrder.{in_order}
-use Rattle.op_thin.specs.Compiled.{ENFORCED_LABEL, enforced_step, probe_steps, job_of, with_tree, recording_of, file_of, config_of}
-use Rattle.op_thin.specs.CompiledPatterns.{JobHasPatterns, JobsHavePatterns, FileHasPatterns, RulesHavePatterns}
+use Rattle.op_thin.specs.Compiled.{job_of, with_tree, recording_of, file_of, config_of}
+use Rattle.op_thin.specs.CompiledPatterns.{FileHasPatterns, RulesHavePatterns}
 
 -- what holds of each image holds of all
 all_images : {A B : Type 0} (P : B → Type 0) (f : A → B) (xs : List A) → ((x : A) → P (f x)) → AllByRecursion P (map f xs)
@@ -67,27 +65,10 @@ job_spans probe = (le_z_yes tt, le_z_yes tt)
 pub config_spans : (objects : Present) → HasSpans (config_of objects)
 config_spans objects = ((le_z_yes tt, le_z_yes tt, le_z_yes tt), jobs_have HasJobSpans objects job_spans)
 
--- the step that puts the enforced label, and those before it
-enforced_last : (namespace : List ℕ) → HasPatterns (enforced_step namespace ∷ [])
-enforced_last namespace = HasPatterns-put ENFORCED_LABEL namespace [] tt
-
-url_before : (probe : ThinProbe) → HasPatterns (put_step (codes "__address__") probe.url ∷ enforced_step probe.namespace ∷ [])
-url_before probe = HasPatterns-put (codes "__address__") probe.url (enforced_step probe.namespace ∷ []) (enforced_last probe.namespace)
-
-probe_patterns : (probe : ThinProbe) → HasPatterns (probe_steps probe)
-probe_patterns probe = (default-pattern, (default-pattern, url_before probe))
-
-job_patterns : (probe : ThinProbe) → JobHasPatterns (job_of probe)
-job_patterns probe = (probe_patterns probe, enforced_last probe.namespace)
-
--- the patterns of the jobs' steps are patterns
-pub jobs_patterns : (objects : Present) → JobsHavePatterns (config_of objects)
-jobs_patterns objects = jobs_have JobHasPatterns objects job_patterns
-
 -- a rule whose expression is taken asks for patterns alone
 first_file : (r : ThinRule) (j : Judged) (rest : List Recording) → IsTyped j → AllByRecursion FileHasPatterns (map file_of rest)
     → AllByRecursion FileHasPatterns (map file_of (cons_option (option_map (with_tree r) (judged_expr j)) rest))
-first_file r (Tree e) rest typed all = (((enforced_patterns ENFORCED_LABEL r.namespace e typed, tt), tt), all)
+first_file r (Tree e) rest typed all = (((enforced_patterns NAMESPACE_LABEL.now r.namespace e typed, tt), tt), all)
 first_file r NotExpr rest typed all = all
 first_file r IllTyped rest typed all = all
 first_file r Nameless rest typed all = all

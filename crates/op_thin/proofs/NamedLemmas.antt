@@ -3,6 +3,7 @@ use Rattle.std.proofs.Common.{◌≡◌, ℕ, Bool, true, false, List, [], ◌�
 use Rattle.serde_json.specs.Data.{Data}
 use Rattle.serde_json.specs.Find.{get, as_str}
 use Rattle.op_base.specs.Names.{is_namespace, is_name}
+use Rattle.op_json.specs.Reading.{json_of}
 use Rattle.op_thin.specs.declared.rule.ThinRule.{ThinRule}
 use Rattle.op_thin.specs.declared.probe.ThinProbe.{ThinProbe}
 use Rattle.op_thin.specs.ThinFields.{both, checked, text_at, with_only, only_item_at, names_of, object_of_kind}
@@ -10,7 +11,7 @@ use Rattle.op_thin.specs.ThinRules as rules
 use Rattle.op_thin.specs.ThinProbes as probes
 use Rattle.op_thin.specs.declared.item.Item.{Item}
 use Rattle.op_thin.specs.declared.item.Item.TheVariants.{Broken, NotYet, Rule, Probe}
-use Rattle.op_thin.specs.Items.{json_of, item_of_objects, item_of_json, item_of, IsThinProbe, IsNamed}
+use Rattle.op_thin.specs.Items.{item_of_objects, item_of_json, item_of, IsThinProbe, IsNamed}
 
 -- nothing is said of a value
 abbrev Anything : {A : Type 0} → A → Type 0

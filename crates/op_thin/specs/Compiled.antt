@@ -2,6 +2,7 @@
 -- object is selected and enforced with the label `namespace`.
 use Rattle.std.specs.Prelude.{ℕ, pos, List, [], ◌∷◌, Option, false, codes, map, option_map}
 use Rattle.std.specs.List.{filter_map}
+use Rattle.op_base.specs.declared.label_names.TheConstants.{NAMESPACE_LABEL}
 use Rattle.op_base.specs.declared.span.Span.{Span}
 use Rattle.op_relabel.specs.declared.step.Step.{Step}
 use Rattle.op_relabel.specs.Steps.{copy_step, put_step}
@@ -21,20 +22,16 @@ use Rattle.op_thin.specs.Objects.{Present, all_of}
 use Rattle.op_thin.specs.FileOrder.{in_order}
 use Rattle.op_thin.specs.ThinProbes.{job_name}
 
--- the label that keeps namespaces apart
-abbrev pub ENFORCED_LABEL : List ℕ
-ENFORCED_LABEL = codes "namespace"
-
 -- each selector asks for entries of the rule's own namespace
 abbrev pub enforced_expr : Recording → Expr
-enforced_expr rule = enforced ENFORCED_LABEL rule.namespace rule.tree
+enforced_expr rule = enforced NAMESPACE_LABEL.now rule.namespace rule.tree
 
 -- the rule with the enforced label among its labels
 abbrev pub config_rule : Recording → Rule
 config_rule rule = record {
   name = rule.record_name;
   expr = enforced_expr rule;
-  labels = (ENFORCED_LABEL, rule.namespace) ∷ [];
+  labels = (NAMESPACE_LABEL.now, rule.namespace) ∷ [];
 }
 
 -- the rule group of one recording rule
@@ -47,7 +44,7 @@ file_of rule = record { namespace = rule.namespace; name = rule.name; groups = g
 
 -- the enforced label is put last
 abbrev pub enforced_step : List ℕ → Step
-enforced_step namespace = put_step ENFORCED_LABEL namespace
+enforced_step namespace = put_step NAMESPACE_LABEL.now namespace
 
 -- the target is the prober's parameter and the instance, and the prober is asked in its place
 abbrev pub probe_steps : ThinProbe → List Step
@@ -77,7 +74,7 @@ job_of probe = record {
   scheme = codes "http";
   scrape_interval = INTERVAL;
   scrape_timeout = TIMEOUT;
-  static_configs = record { labels = (ENFORCED_LABEL, probe.namespace) ∷ []; targets = probe.target ∷ [] };
+  static_configs = record { labels = (NAMESPACE_LABEL.now, probe.namespace) ∷ []; targets = probe.target ∷ [] };
 }
 
 -- the Prometheus part: the settings that stand, and the jobs by namespace and name

@@ -1,22 +1,12 @@
--- The patterns of a configuration: those of the jobs' steps, and those that the rules' matchers ask for.
+-- The patterns that the rules' matchers of a configuration ask for.
 use Rattle.std.specs.List.{AllByRecursion}
 use Rattle.op_base.specs.Matchers.{HasPattern}
-use Rattle.op_relabel.specs.Relabelled.{HasPatterns}
 use Rattle.cfg_types.specs.declared.config.Config.{Config}
 use Rattle.cfg_types.specs.declared.config.RuleFile.{RuleFile}
 use Rattle.cfg_types.specs.declared.config.Rule.{Rule}
-use Rattle.cfg_types.specs.declared.job.Job.{Job}
 use Rattle.ql_tree.specs.declared.tree.Expr.{Expr}
 use Rattle.ql_tree.specs.declared.tree.Expr.TheOpen.{Expr-F}
 use Rattle.ql_tree.specs.declared.tree.Expr.TheViews.{out-Expr}
-
--- the patterns of a job's steps are patterns
-abbrev pub JobHasPatterns : Job → Type 0
-JobHasPatterns job = HasPatterns job.relabel_configs × HasPatterns job.metric_relabel_configs
-
--- each job has its patterns
-abbrev pub JobsHavePatterns : Config → Type 0
-JobsHavePatterns config = AllByRecursion JobHasPatterns config.prometheus.jobs
 
 -- each matcher of a selector with `=~` or `!~` has a pattern
 abbrev pub NodeHasPatterns : Expr-F Expr → Type 0

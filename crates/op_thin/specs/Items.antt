@@ -1,9 +1,8 @@
 -- What the bytes of a manifest are.
-use Rattle.std.specs.Prelude.{◌≡◌, ℕ, Bool, true, List, Option, Some, None, if◌then◌else◌}
-use Rattle.std.specs.Str.{is_utf8}
+use Rattle.std.specs.Prelude.{◌≡◌, ℕ, Bool, true, List, Option, Some, None}
 use Rattle.serde_json.specs.Data.{Data}
-use Rattle.serde_json.specs.Read.{read}
 use Rattle.op_base.specs.Names.{is_namespace}
+use Rattle.op_json.specs.Reading.{json_of}
 use Rattle.op_thin.specs.declared.item.Item.{Item}
 use Rattle.op_thin.specs.declared.item.Item.TheVariants.{Broken, NotYet, Rule, Probe}
 use Rattle.op_thin.specs.declared.rule.ThinRule.{ThinRule}
@@ -11,10 +10,6 @@ use Rattle.op_thin.specs.declared.probe.ThinProbe.{ThinProbe}
 use Rattle.op_thin.specs.Judged.{IsTyped}
 use Rattle.op_thin.specs.ThinRules.{thin_rule_of}
 use Rattle.op_thin.specs.ThinProbes.{thin_probe_of, is_thin_text}
-
--- the JSON value that bytes are, if they are UTF-8 and JSON
-abbrev pub json_of : List ℕ → Option Data
-json_of bytes = if is_utf8 bytes then read bytes else None
 
 -- a thin rule, or else a thin probe, or else of a form that isn't read yet
 abbrev pub item_of_objects : Option ThinRule → Option ThinProbe → Item

@@ -1,28 +1,10 @@
 -- The fields of a thin object: which stand there, and what its metadata names. A field that is null
 -- counts as absent, under whatever name.
-use Rattle.std.specs.Prelude.{ℕ, List, [], ◌∷◌, Bool, true, false, Option, Some, None, ◌==◌, ◌&&◌, ◌||◌, codes, option_and_then, is_some, if◌then◌else◌}
-use Rattle.std.specs.List.{list_any}
-use Rattle.std.specs.Cmp.Lexicographic.{pointwise}
-use Rattle.serde_json.specs.Data.{Data, null, boolean, number, string, array, object, Items, no_items, item, Members, no_members, member}
-use Rattle.serde_json.specs.Find.{get, as_str, as_null}
+use Rattle.std.specs.Prelude.{ℕ, List, [], ◌∷◌, Bool, false, not, Option, Some, None, ◌&&◌, codes, option_and_then, is_some, if◌then◌else◌}
+use Rattle.serde_json.specs.Data.{Data, null, boolean, number, string, array, object, Items, no_items, item}
+use Rattle.serde_json.specs.Find.{get, as_str}
 use Rattle.op_base.specs.Names.{is_namespace, is_name}
-
--- both texts are the same
-abbrev pub is_text : List ℕ → List ℕ → Bool
-is_text these those = pointwise ◌==◌ these those
-
--- the value is null
-abbrev pub is_null : Data → Bool
-is_null d = is_some (as_null d)
-
--- a member may stand where it is null or has one of the names
-abbrev pub may_stand : List (List ℕ) → List ℕ → Data → Bool
-may_stand names name d = is_null d || list_any (is_text name) names
-
--- each member that isn't null has one of the names
-abbrev pub members_are : List (List ℕ) → Members → Bool
-members_are names no_members = true
-members_are names (member name d ms) = may_stand names name d && members_are names ms
+use Rattle.op_json.specs.Reading.{is_text, stray}
 
 -- an object whose fields that aren't null have these names
 abbrev pub has_only : List (List ℕ) → Data → Bool
@@ -31,7 +13,7 @@ has_only names (boolean b) = false
 has_only names (number n) = false
 has_only names (string s) = false
 has_only names (array ds) = false
-has_only names (object ms) = members_are names ms
+has_only names (object ms) = not (is_some (stray names ms))
 
 -- the only item of a list
 abbrev pub only_item : Items → Option Data

@@ -1,15 +1,12 @@
 -- Thin probes: a Probe object with a prober's URL and one static target, both texts that aren't empty
 -- and hold no `$`.
-use Rattle.std.specs.Prelude.{ℕ, List, [], ◌∷◌, ◌++◌, Bool, false, not, ◌==◌, Option, codes, option_and_then}
+use Rattle.std.specs.Prelude.{ℕ, List, [], ◌∷◌, ◌++◌, Bool, false, Option, codes, option_and_then}
 use Rattle.std.specs.List.{list_all}
 use Rattle.serde_json.specs.Data.{Data}
 use Rattle.serde_json.specs.Find.{get, as_str}
+use Rattle.op_relabel.specs.Steps.{is_no_dollar}
 use Rattle.op_thin.specs.declared.probe.ThinProbe.{ThinProbe}
 use Rattle.op_thin.specs.ThinFields.{both, checked, text_at, with_only, only_item_at, names_of, object_of_kind}
-
--- the byte is no `$`
-abbrev pub is_no_dollar : ℕ → Bool
-is_no_dollar b = not (b == 36)
 
 -- a text that isn't empty and holds no `$`
 abbrev pub is_thin_text : List ℕ → Bool

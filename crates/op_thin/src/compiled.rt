@@ -4,7 +4,7 @@ ghost use Rattle.cfg_types.specs.Written.{HasSpans, file_text as text_of};
 ghost use Rattle.std.specs.List.{filter_map};
 ghost use Rattle.ql_tree.specs.Enforced.{enforced};
 ghost use Rattle.op_thin.specs.Compiled as spec;
-ghost use Rattle.op_thin.specs.CompiledPatterns.{JobsHavePatterns, RulesHavePatterns};
+ghost use Rattle.op_thin.specs.CompiledPatterns.{RulesHavePatterns};
 ghost use Rattle.op_thin.specs.FileOrder.{files_by_text as files_by_text_of};
 ghost use Rattle.op_thin.specs.ThinProbes.{job_name as job_name_of};
 
@@ -13,19 +13,16 @@ use crate::probe::ThinProbe;
 use crate::recording::{Recording, recording_of};
 use crate::rule::ThinRule;
 use cfg_types::{Config, Group, Job, PromPart, Rule, RuleFile, StaticConfig, file_text};
-use op_base::{List, NoMemory, Span, Table, Tags, Text};
-use op_relabel::Step;
+use op_base::{List, NAMESPACE_LABEL, NoMemory, Span, Table, Tags, Text};
+use op_relabel::CheckedSteps;
 use ql_rewrite::{EnforceFault, enforce};
 use ql_tree::Expr;
 use std::alloc::Global;
-
-const ENFORCED_LABEL: &str = "namespace";
 
 /// The configuration of the objects present.
 pub fn compile(alloc: Global, objects: Objects) -> Result<Config, NoMemory>
     ensures config { IfOk result (λ config. config ≡ spec.config_of objects) }
     ensures spans { IfOk result HasSpans }
-    ensures jobs { IfOk result JobsHavePatterns }
     ensures rules { IfOk result RulesHavePatterns }
 {
     let (rules, probes) = objects.into_all(alloc)?;
@@ -71,7 +68,7 @@ fn probe_job(alloc: Global, probe: &ThinProbe) -> Result<Job, NoMemory>
     Ok(Job {
         honor_labels: false,
         job_name: job_name(alloc, probe)?,
-        metric_relabel_configs: list_of(alloc, enforced_step(alloc, probe)?)?,
+        metric_relabel_configs: sample_steps(alloc, probe)?,
         metrics_path: Text::from_str(alloc, "/probe")?,
         relabel_configs: probe_steps(alloc, probe)?,
         scheme: Text::from_str(alloc, "http")?,
@@ -83,7 +80,7 @@ fn probe_job(alloc: Global, probe: &ThinProbe) -> Result<Job, NoMemory>
 
 fn static_config(alloc: Global, probe: &ThinProbe) -> Result<StaticConfig, NoMemory>
     ensures { IfOk result (λ config. config ≡ record {
-      labels = (spec.ENFORCED_LABEL, probe.now.namespace) ∷ [];
+      labels = (NAMESPACE_LABEL.now, probe.now.namespace) ∷ [];
       targets = probe.now.target ∷ [];
     }) }
 {
@@ -103,20 +100,22 @@ fn job_name(alloc: Global, probe: &ThinProbe) -> Result<Text, NoMemory>
     Ok(name)
 }
 
-fn enforced_step(alloc: Global, probe: &ThinProbe) -> Result<Step, NoMemory>
-    ensures { IfOk result (λ step. step ≡ spec.enforced_step probe.now.namespace) }
+fn sample_steps(alloc: Global, probe: &ThinProbe) -> Result<CheckedSteps, NoMemory>
+    ensures { IfOk result (λ steps. steps ≡ spec.enforced_step probe.now.namespace ∷ []) }
 {
-    Step::put_value(alloc, ENFORCED_LABEL, probe.namespace.as_str())
+    let mut steps = CheckedSteps::new(alloc);
+    steps.put_value(alloc, NAMESPACE_LABEL, probe.namespace.as_str())?;
+    Ok(steps)
 }
 
-fn probe_steps(alloc: Global, probe: &ThinProbe) -> Result<List<Step>, NoMemory>
+fn probe_steps(alloc: Global, probe: &ThinProbe) -> Result<CheckedSteps, NoMemory>
     ensures { IfOk result (λ steps. steps ≡ spec.probe_steps probe.now) }
 {
-    let mut steps = List::new(alloc);
-    steps.push(Step::copy_label(alloc, "__address__", "__param_target")?)?;
-    steps.push(Step::copy_label(alloc, "__param_target", "instance")?)?;
-    steps.push(Step::put_value(alloc, "__address__", probe.url.as_str())?)?;
-    steps.push(enforced_step(alloc, probe)?)?;
+    let mut steps = CheckedSteps::new(alloc);
+    steps.copy_label(alloc, "__address__", "__param_target")?;
+    steps.copy_label(alloc, "__param_target", "instance")?;
+    steps.put_value(alloc, "__address__", probe.url.as_str())?;
+    steps.put_value(alloc, NAMESPACE_LABEL, probe.namespace.as_str())?;
     Ok(steps)
 }
 
@@ -187,9 +186,9 @@ fn config_rule(alloc: Global, rule: &Recording) -> Result<Rule, NoMemory>
 }
 
 fn enforced_expr(alloc: Global, tree: &Expr, namespace: &Text) -> Result<Expr, NoMemory>
-    ensures { IfOk result (λ expr. expr ≡ enforced spec.ENFORCED_LABEL namespace.now tree.now) }
+    ensures { IfOk result (λ expr. expr ≡ enforced NAMESPACE_LABEL.now namespace.now tree.now) }
 {
-    match enforce(alloc, tree, ENFORCED_LABEL, namespace.as_str(), false) {
+    match enforce(alloc, tree, NAMESPACE_LABEL, namespace.as_str(), false) {
         Ok(expr) => Ok(expr),
         Err(EnforceFault::NoMemory) => Err(NoMemory),
         Err(EnforceFault::Conflict(_)) => unreachable!(),
@@ -197,10 +196,10 @@ fn enforced_expr(alloc: Global, tree: &Expr, namespace: &Text) -> Result<Expr, N
 }
 
 fn enforced_labels(alloc: Global, namespace: &Text) -> Result<Tags, NoMemory>
-    ensures { IfOk result (λ labels. labels ≡ (spec.ENFORCED_LABEL, namespace.now) ∷ []) }
+    ensures { IfOk result (λ labels. labels ≡ (NAMESPACE_LABEL.now, namespace.now) ∷ []) }
 {
     let mut labels = Tags::new(alloc);
-    labels.set(ENFORCED_LABEL, namespace.as_str())?;
+    labels.set(NAMESPACE_LABEL, namespace.as_str())?;
     Ok(labels)
 }
 

@@ -1,12 +1,12 @@
 ghost use Rattle.std.specs.Prelude.{◌≡◌, map, option_map, option_and_then, codes, ◌∷◌, [], true, IfSome};
-ghost use Rattle.serde_json.specs.View.{view, members_view, items_view};
-ghost use Rattle.std.specs.List.{list_any};
+ghost use Rattle.serde_json.specs.View.{view, items_view};
 ghost use Rattle.serde_json.specs.Find.{get};
 ghost use Rattle.op_base.specs.Names as names;
 ghost use Rattle.op_thin.specs.ThinFields as spec;
 
 use op_base::{is_name, is_namespace};
-use serde_json::{Map, Value};
+use op_json::stray;
+use serde_json::Value;
 
 /// The namespace and the name of an object.
 pub type Names<'a> = (&'a str, &'a str);
@@ -104,30 +104,7 @@ fn has_only(value: &Value, names: &[&str]) -> bool
     ensures { result ≡ spec.has_only (map (λ name. name.now) names.now) (view value.now) }
 {
     match value.as_object() {
-        Some(members) => members_are(members, names),
+        Some(members) => stray(members, names).is_none(),
         None => false,
     }
-}
-
-fn members_are(members: &Map<String, Value>, names: &[&str]) -> bool
-    ensures { result ≡ spec.members_are (map (λ name. name.now) names.now) (members_view members.now.entries) }
-{
-    for (name, value) in members {
-        if !may_stand(name.as_str(), value, names) {
-            return false;
-        }
-    }
-    true
-}
-
-fn may_stand(name: &str, value: &Value, names: &[&str]) -> bool
-    ensures { result ≡ spec.may_stand (map (λ name. name.now) names.now) name.now (view value.now) }
-{
-    value.is_null() || is_among(name, names)
-}
-
-fn is_among(name: &str, names: &[&str]) -> bool
-    ensures { result ≡ list_any (λ one. spec.is_text name.now one.now) names.now }
-{
-    names.iter().any(|one| name == *one)
 }

@@ -1,4 +1,4 @@
-ghost use Rattle.std.specs.Prelude.{◌≡◌, ℕ, List, option_map, None, IfOk};
+ghost use Rattle.std.specs.Prelude.{◌≡◌, ℕ, List, None, IfOk};
 ghost use Rattle.serde_json.specs.View.{view};
 ghost use Rattle.op_thin.specs.ThinProbes.{thin_probe_of};
 ghost use Rattle.op_thin.specs.Items as spec;
@@ -6,6 +6,7 @@ ghost use Rattle.op_thin.specs.Items as spec;
 use crate::probe::{ThinProbe, thin_probe};
 use crate::rule::{ThinRule, thin_rule};
 use op_base::NoMemory;
+use op_json::read_json;
 use serde_json::Value;
 use std::alloc::Global;
 
@@ -56,21 +57,5 @@ fn probe_or_not_yet(alloc: Global, value: &Value) -> Result<Item, NoMemory>
     match thin_probe(alloc, value)? {
         Some(probe) => Ok(Item::Probe(probe)),
         None => Ok(Item::NotYet),
-    }
-}
-
-// The JSON value, or none where the bytes aren't JSON.
-fn read_json(alloc: Global, bytes: &[u8]) -> Result<Option<Value>, NoMemory>
-    ensures { IfOk result (λ value. option_map view value ≡ spec.json_of bytes.now) }
-{
-    match Value::from_slice(alloc, bytes) {
-        Ok(value) => Ok(Some(value)),
-        Err(error) => {
-            if error.is_memory() {
-                Err(NoMemory)
-            } else {
-                Ok(None)
-            }
-        }
     }
 }

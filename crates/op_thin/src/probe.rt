@@ -2,6 +2,7 @@ ghost use Rattle.std.specs.Prelude.{◌≡◌, option_map, true, Some, IfOk, IfS
 ghost use Rattle.std.specs.List.{list_all};
 ghost use Rattle.serde_json.specs.View.{view};
 ghost use Rattle.op_base.specs.Names as names;
+ghost use Rattle.op_relabel.specs.Steps.{is_no_dollar};
 ghost use Rattle.op_thin.specs.ThinFields.{checked};
 ghost use Rattle.op_thin.specs.Items.{IsThinProbe};
 ghost use Rattle.op_thin.specs.ThinProbes as spec;
@@ -109,7 +110,7 @@ fn is_thin_text(text: &str) -> bool
 }
 
 fn has_no_dollar(bytes: &[u8]) -> bool
-    ensures { result ≡ list_all spec.is_no_dollar bytes.now }
+    ensures { result ≡ list_all is_no_dollar bytes.now }
 {
     bytes.iter().all(|b| *b != b'$')
 }

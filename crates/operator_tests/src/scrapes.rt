@@ -5,8 +5,8 @@ ghost use Rattle.op_relabel.specs.Relabelled.{HasPatterns};
 
 use crate::things::{label, text};
 use cfg_types::{Job, StaticConfig};
-use op_base::{List, Moment, NoMemory, Span, Tags};
-use op_relabel::{Step, relabel};
+use op_base::{List, Moment, NoMemory, PatternFault, Span, Tags};
+use op_relabel::{CheckedSteps, Step, relabel};
 use srv_scrape::{Pages, Target, scrape};
 use std::alloc::Global;
 use std::test::Fail;
@@ -32,15 +32,32 @@ fn a_step_copies_a_label(rt: HostRuntime) -> Result<(), Fail> {
     Ok(())
 }
 
-fn job(alloc: Global) -> Result<Job, NoMemory>
-    ensures { IfOk result (λ job. HasPatterns job.metric_relabel_configs) }
-{
+// Whether a step with that pattern is taken.
+fn is_taken(alloc: Global, pattern: &str) -> Result<bool, NoMemory> {
+    let mut step = Step::copy_label(alloc, "a", "b")?;
+    step.pattern = text(alloc, pattern)?;
+    let mut steps = CheckedSteps::new(alloc);
+    match steps.push(alloc, step) {
+        Ok(()) => Ok(true),
+        Err(PatternFault::BadPattern) => Ok(false),
+        Err(PatternFault::NoMemory) => Err(NoMemory),
+    }
+}
+
+#[test]
+fn a_step_whose_pattern_is_none_is_refused(rt: HostRuntime) -> Result<(), Fail> {
+    assert!(rt; is_taken(rt.alloc(), "x.*")?);
+    assert!(rt; !is_taken(rt.alloc(), "(")?);
+    Ok(())
+}
+
+fn job(alloc: Global) -> Result<Job, NoMemory> {
     Ok(Job {
         honor_labels: false,
         job_name: text(alloc, "j")?,
-        metric_relabel_configs: List::new(alloc),
+        metric_relabel_configs: CheckedSteps::new(alloc),
         metrics_path: text(alloc, "/metrics")?,
-        relabel_configs: List::new(alloc),
+        relabel_configs: CheckedSteps::new(alloc),
         scheme: text(alloc, "http")?,
         scrape_interval: Span(30_000),
         scrape_timeout: Span(10_000),

@@ -11,7 +11,7 @@ use Rattle.op_report.specs.declared.view.Report.{Report}
 use Rattle.op_report.specs.declared.view.View.TheVariants.{Page as PageView}
 use Rattle.srv_scrape.specs.declared.pages.Sample.{Sample}
 use Rattle.srv_scrape.specs.Pages.{Pages}
-use Rattle.srv_scrape.specs.Ticks.{HavePatterns, scraped_entries}
+use Rattle.srv_scrape.specs.Ticks.{scraped_entries}
 use Rattle.srv_store.specs.Stores.{AddsPrefix}
 use Rattle.srv_run.specs.declared.event.Event.{Event}
 use Rattle.srv_run.specs.declared.event.Event.TheVariants.{Known, Page, Tick}
@@ -88,10 +88,6 @@ no_config = record {
 -- a new server
 abbrev pub new_serving : Serving
 new_serving = record { config = no_config; served = new_served }
-
--- what can be run: each step that asks for a pattern has one
-abbrev pub CanRun : Config → Type 0
-CanRun config = HavePatterns config.prometheus.jobs
 
 -- what an event has to be: a namespace's name is well formed, a tick's moment from 0 to 2^53
 abbrev pub IsFit : Event → Type 0

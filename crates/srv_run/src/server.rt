@@ -17,8 +17,8 @@ use std::alloc::Global;
 use std::marker::Model;
 
 /// A server: the configuration that was loaded last, and what it keeps of the events before.
-/// Contracts see both. Each configuration that it holds can be run, each namespace that it knows is
-/// well formed, and its last tick is from 0 to 2^53. It keeps its allocator.
+/// Contracts see both. Each namespace that it knows is well formed, and its last tick is from 0 to
+/// 2^53. It keeps its allocator.
 #[derive(Debug, Drop)]
 pub struct Server {
     alloc: Global,
@@ -36,7 +36,7 @@ impl Model for Server {
     ghost use Rattle.std.specs.Prelude.{IfSome};
     ghost use Rattle.ql_tree.specs.contracts.tree.Expr as expr;
     ghost use Rattle.op_base.specs.Moments.{IsTick};
-    ghost use Rattle.srv_run.specs.Served.{Serving, CanRun, AreKnown};
+    ghost use Rattle.srv_run.specs.Served.{Serving, AreKnown};
 
     ghost Value = { Serving };
 
@@ -52,7 +52,7 @@ impl Model for Server {
       };
     } };
 
-    ghost invariant = { λ server. CanRun server.config × AreKnown server.known × IfSome server.last IsTick };
+    ghost invariant = { λ server. AreKnown server.known × IfSome server.last IsTick };
 }
 
 impl Server {
@@ -74,7 +74,6 @@ impl Server {
 
     /// Loads the configuration in place of the one before; all else stays.
     pub fn load(&mut self, config: Config) -> Result<(), NoMemory>
-        requires { spec.CanRun config }
         ensures ok { OnOk result (self.new ≡ record self.old { config = config }) }
         ensures err { OnErr result (self.new ≡ self.old) }
     {

@@ -1,7 +1,6 @@
 ghost use Rattle.std.specs.Prelude.{◌≡◌, IfOk, OnOk, OnErr};
 ghost use Rattle.srv_store.specs.Stores.{AddsPrefix, with_all};
 ghost use Rattle.srv_scrape.specs.Ticks as scrapes;
-ghost use Rattle.srv_run.specs.Served.{CanRun};
 ghost use Rattle.srv_run.specs.Ticking.{left, ticked_as, tick_over};
 
 use cfg_types::{Config, Job};
@@ -22,7 +21,6 @@ pub fn run_tick(
     states: &RuleStates,
     t: Moment,
 ) -> Result<(List<Labels>, RuleStates, List<FailedRule>), NoMemory>
-    requires { CanRun config.now }
     ensures ok { IfOk result (λ given. ticked_as store.old (left store.new given.0 given.1) given.2
         ≡ tick_over config.now pages.now (left store.old scraped.now states.now) t) }
     ensures err { OnErr result (AddsPrefix store.old store.new
@@ -42,7 +40,6 @@ fn store_scrapes(
     store: &mut Store,
     t: Moment,
 ) -> Result<List<Labels>, NoMemory>
-    requires { scrapes.HavePatterns jobs.now }
     ensures given { IfOk result (λ given. given
         ≡ scrapes.label_sets (scrapes.scraped_entries pages.now t jobs.now)) }
     ensures ok { OnOk result (store.new ≡ with_all store.old

@@ -8,9 +8,8 @@ use Rattle.std.specs.Cmp.Lexicographic.{slice_cmp, nat_list_cmp_total}
 use Rattle.std.specs.FinMap.Entries.{by_order}
 use Rattle.std.proofs.lemmas.List.{append-nil, append_assoc}
 use Rattle.op_base.specs.Maps.{IsMap, with_entry, keys_of}
-use Rattle.op_base.specs.Labels.{Texts, IsLabels}
+use Rattle.op_base.specs.Labels.{Texts, IsLabels, labels_with_all}
 use Rattle.op_base.proofs.EntryLemmas.{labels_with-some}
-use Rattle.srv_scrape.specs.Joined.{scraped_over}
 
 -- what holds of all names holds of one of them and of the others
 middle : (P : List ℕ → Type 0) (front back : Texts) (x : List ℕ × List ℕ) → AllByRecursion P (keys_of (front ++ x ∷ back))
@@ -35,16 +34,16 @@ put-last (e ∷ front) back x h =
     ∙ ap (λ l. e ∷ l) (put-last front back x h.1)
 
 rebuilt-after : (keep : List ℕ × List ℕ → Bool) (front back : Texts) → IsMap (front ++ back) → AllByRecursion (λ entry. 0 < length entry.1) back
-    → scraped_over front (filter keep back) ≡ front ++ filter keep back
+    → labels_with_all front (filter keep back) ≡ front ++ filter keep back
 rebuilt-after keep front [] rises some = sym (append-nil front)
 rebuilt-after keep front (x ∷ back) rises some =
-    elim (keep x) as (λ b. scraped_over front (cond b (x ∷ filter keep back) (filter keep back)) ≡ front ++ cond b (x ∷ filter keep back) (filter keep back)) [
+    elim (keep x) as (λ b. labels_with_all front (cond b (x ∷ filter keep back) (filter keep back)) ≡ front ++ cond b (x ∷ filter keep back) (filter keep back)) [
       | true ↦
-          ap (λ labels. scraped_over labels (filter keep back)) (sym (labels_with-some front x.0 x.1 some.0) ∙ put-last front back x rises)
+          ap (λ labels. labels_with_all labels (filter keep back)) (sym (labels_with-some front x.0 x.1 some.0) ∙ put-last front back x rises)
           ∙ rebuilt-after keep (front ++ x ∷ []) back (subst IsMap (sym (append_assoc front (x ∷ []) back)) rises) some.1
           ∙ append_assoc front (x ∷ []) (filter keep back)
       | false ↦ rebuilt-after keep front back (without_middle front back x rises) some.1
     ]
 
-pub rebuilt : (keep : List ℕ × List ℕ → Bool) (labels : Texts) → IsLabels labels → scraped_over [] (filter keep labels) ≡ filter keep labels
+pub rebuilt : (keep : List ℕ × List ℕ → Bool) (labels : Texts) → IsLabels labels → labels_with_all [] (filter keep labels) ≡ filter keep labels
 rebuilt keep labels h = rebuilt-after keep [] labels h.0 h.1

@@ -5,15 +5,11 @@ use Rattle.std.specs.Cmp.Lexicographic.{slice_cmp}
 use Rattle.std.specs.Ordering.{nat_cmp, on, then_cmp}
 use Rattle.std.specs.declared.cmp.Ordering.{Ordering}
 use Rattle.op_base.specs.Maps.{value_at}
-use Rattle.op_base.specs.Labels.{Texts, labels_with}
+use Rattle.op_base.specs.Labels.{Texts, labels_with, labels_with_all}
 
 -- a name is there
 abbrev pub has_name : Texts → List ℕ → Bool
 has_name labels name = is_some (value_at labels name)
-
--- the target's labels with a scraped one over them
-abbrev pub scraped_over : Texts → Texts → Texts
-scraped_over target scraped = fold (λ labels label. labels_with labels label.0 label.1) target scraped
 
 -- names before one another: shorter first, equal lengths in order
 abbrev pub name_cmp : List ℕ → List ℕ → Ordering
@@ -65,9 +61,9 @@ all_exported scraped given labels = fold (with_exported scraped) given labels
 -- the target's labels, the scraped ones beside them, and those that clash under new names
 abbrev pub renamed : Texts → Texts → Texts
 renamed target scraped =
-    all_exported scraped (scraped_over target (apart target scraped)) (clashing target scraped)
+    all_exported scraped (labels_with_all target (apart target scraped)) (clashing target scraped)
 
 -- with `honor_labels` a scraped label wins, else it is renamed
 abbrev pub joined : Bool → Texts → Texts → Texts
-joined true target scraped = scraped_over target scraped
+joined true target scraped = labels_with_all target scraped
 joined false target scraped = renamed target scraped

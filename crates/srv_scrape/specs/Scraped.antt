@@ -2,17 +2,14 @@
 use Rattle.std.specs.Prelude.{ℕ, ℤ, pos, List, [], ◌∷◌, ◌++◌, Bool, Option, Some, None, codes, map, if◌then◌else◌}
 use Rattle.std.specs.List.{list_all, filter_map}
 use Rattle.op_base.specs.declared.moment.Moment.{Moment}
-use Rattle.op_base.specs.Labels.{Texts, labels_with}
+use Rattle.op_base.specs.declared.label_names.TheConstants.{METRIC_NAME}
+use Rattle.op_base.specs.Labels.{Texts, labels_with, labels_with_all}
 use Rattle.op_relabel.specs.declared.step.Step.{Step}
 use Rattle.op_relabel.specs.Relabelled.{relabelled}
 use Rattle.srv_store.specs.declared.entry.Entry.{Entry}
 use Rattle.srv_scrape.specs.declared.pages.Sample.{Sample}
 use Rattle.srv_scrape.specs.declared.target.Target.{Target}
-use Rattle.srv_scrape.specs.Joined.{joined, has_name, scraped_over}
-
--- the label that holds a metric's name
-abbrev pub NAME : List ℕ
-NAME = codes "__name__"
+use Rattle.srv_scrape.specs.Joined.{joined, has_name}
 
 -- how samples become entries: whether a scraped label wins, the metric steps, and labels put over all
 pub record Manner : Type 0 where
@@ -32,7 +29,7 @@ left_with value (label ∷ labels) = Some (record { labels = label ∷ labels; v
 -- what is left of a sample: joined, then through the steps, then with the forced labels
 abbrev pub left_after : Texts → ℤ → Option Texts → Option Left
 left_after force value None = None
-left_after force value (Some labels) = left_with value (scraped_over labels force)
+left_after force value (Some labels) = left_with value (labels_with_all labels force)
 
 -- what is left of a sample, if anything: its labels are joined to the target's and relabelled
 abbrev pub left_of : Manner → Target → Sample → Option Left
@@ -45,11 +42,11 @@ all_left manner target samples = filter_map (left_of manner target) samples
 
 -- each has a name; else the scrape fails
 abbrev pub all_named : List Left → Bool
-all_named samples = list_all (λ sample. has_name sample.labels NAME) samples
+all_named samples = list_all (λ sample. has_name sample.labels METRIC_NAME.now) samples
 
 -- the series `up` of a target: 1, or 0 where the scrape failed
 abbrev pub up_entry : Target → Moment → ℤ → Entry
-up_entry target t value = record { labels = labels_with target.labels NAME (codes "up"); at = t; value = Some value }
+up_entry target t value = record { labels = labels_with target.labels METRIC_NAME.now (codes "up"); at = t; value = Some value }
 
 -- a scrape that failed gives `up` with 0 alone
 abbrev pub failed_scrape : Target → Moment → List Entry

@@ -3,7 +3,7 @@ use Rattle.std.specs.Prelude.{ℕ, List, [], ◌∷◌, ◌++◌, Bool, not, Opt
 use Rattle.std.specs.List.{filter_map, starts_with}
 use Rattle.form_urlencoded.specs.Form.{append_pair}
 use Rattle.op_base.specs.Maps.{value_at, without_entry}
-use Rattle.op_base.specs.Labels.{Texts, labels_with}
+use Rattle.op_base.specs.Labels.{Texts, labels_with, labels_with_all}
 use Rattle.op_base.specs.Matchers.{label_value}
 use Rattle.op_relabel.specs.Relabelled.{relabelled}
 use Rattle.cfg_types.specs.declared.job.Job.{Job}
@@ -31,7 +31,7 @@ with_default name value labels = if is_some (value_at labels name) then labels e
 
 -- texts as labels: those that aren't empty
 abbrev pub as_labels : Texts → Texts
-as_labels texts = fold (λ labels text. labels_with labels text.0 text.1) [] texts
+as_labels texts = labels_with_all [] texts
 
 -- the labels with the address, in place of any that they have
 abbrev pub with_address : List ℕ → Texts → Texts

@@ -1,9 +1,8 @@
 -- The entries that the scrapes of one tick give, staleness markers included.
 use Rattle.std.specs.Prelude.{ℤ, List, [], ◌++◌, not, Option, None, filter, fold, map}
-use Rattle.std.specs.List.{flat_map, AllByRecursion}
+use Rattle.std.specs.List.{flat_map}
 use Rattle.op_base.specs.declared.moment.Moment.{Moment}
 use Rattle.op_base.specs.Labels.{Texts}
-use Rattle.op_relabel.specs.Relabelled.{HasPatterns}
 use Rattle.cfg_types.specs.declared.job.Job.{Job}
 use Rattle.srv_store.specs.declared.entry.Entry.{Entry}
 use Rattle.srv_store.specs.LabelMaps.{LabelMap, has_labels, with_value, labels_in}
@@ -15,10 +14,6 @@ use Rattle.srv_scrape.specs.Targets.{job_targets}
 -- a job's own manner: nothing is forced beside its steps
 abbrev pub manner_of : Job → Manner
 manner_of job = record { honor = job.honor_labels; steps = job.metric_relabel_configs; force = [] }
-
--- the patterns in each job's steps are patterns
-abbrev pub HavePatterns : List Job → Type 0
-HavePatterns jobs = AllByRecursion (λ job. HasPatterns job.relabel_configs × HasPatterns job.metric_relabel_configs) jobs
 
 -- the entries of the scrapes of these targets in one manner
 abbrev pub target_entries : Pages → Moment → Manner → List Target → List Entry

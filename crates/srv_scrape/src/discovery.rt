@@ -1,10 +1,9 @@
 ghost use Rattle.std.specs.Prelude.{◌≡◌, ◌++◌, ◌∷◌, [], filter, IfOk, OnOk};
 ghost use Rattle.std.specs.List.{filter_map};
-ghost use Rattle.op_relabel.specs.Relabelled.{HasPatterns};
-ghost use Rattle.srv_scrape.specs.Joined.{scraped_over};
+ghost use Rattle.op_base.specs.Labels.{labels_with_all};
 ghost use Rattle.srv_scrape.specs.Targets as spec;
 
-use crate::labels::{has_name, put_default, put_texts};
+use crate::labels::{has_name, put_default};
 use crate::target::Target;
 use crate::url::url_of;
 use cfg_types::Job;
@@ -15,7 +14,6 @@ use std::alloc::Global;
 /// The targets of a job, in the order of its static ones. An address that the job's steps drop, or
 /// that has no label `__address__` after them, gives none.
 pub fn targets(alloc: Global, job: &Job) -> Result<List<Target>, NoMemory>
-    requires { HasPatterns job.now.relabel_configs }
     ensures { IfOk result (λ targets. targets ≡ spec.job_targets job.now) }
 {
     let steps = prepare(alloc, &job.relabel_configs)?;
@@ -64,7 +62,7 @@ fn discovered(alloc: Global, job: &Job, address: &str) -> Result<Labels, NoMemor
     ensures { IfOk result (λ labels. labels ≡ spec.discovered job.now address.now) }
 {
     let mut labels = Labels::new(alloc);
-    put_texts(&mut labels, &job.static_configs.labels)?;
+    labels.set_all(&job.static_configs.labels)?;
     put_address(&mut labels, address)?;
     put_job(&mut labels, job)?;
     Ok(labels)
@@ -118,7 +116,7 @@ fn own_labels(alloc: Global, labels: &Labels) -> Result<Labels, NoMemory>
 
 fn put_if_own(own: &mut Labels, name: &str, value: &str) -> Result<(), NoMemory>
     ensures { OnOk result (own.new
-        ≡ scraped_over own.old (filter spec.is_kept ((name.now, value.now) ∷ []))) }
+        ≡ labels_with_all own.old (filter spec.is_kept ((name.now, value.now) ∷ []))) }
 {
     if name.as_bytes().starts_with(b"__") {
         return Ok(());

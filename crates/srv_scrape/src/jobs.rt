@@ -1,5 +1,4 @@
 ghost use Rattle.std.specs.Prelude.{◌≡◌, ◌++◌, IfOk, OnOk};
-ghost use Rattle.op_relabel.specs.Relabelled.{HasPatterns};
 ghost use Rattle.srv_scrape.specs.Pages.{page_at};
 ghost use Rattle.srv_scrape.specs.Scraped.{scraped};
 ghost use Rattle.srv_scrape.specs.Ticks as spec;
@@ -20,7 +19,6 @@ pub fn scrape_all(
     pages: &Pages,
     t: Moment,
 ) -> Result<List<Entry>, NoMemory>
-    requires { spec.HavePatterns jobs.now }
     ensures { IfOk result (λ entries. entries ≡ spec.scraped_entries pages.now t jobs.now) }
 {
     let mut entries = List::new(alloc);
@@ -35,7 +33,6 @@ fn push_jobs(
     pages: &Pages,
     t: Moment,
 ) -> Result<(), NoMemory>
-    requires { spec.HavePatterns jobs.now }
     ensures { OnOk result (entries.new ≡ entries.old ++ spec.scraped_entries pages.now t jobs.now) }
 {
     for job in jobs {
@@ -51,8 +48,6 @@ fn push_job(
     pages: &Pages,
     t: Moment,
 ) -> Result<(), NoMemory>
-    requires targets { HasPatterns job.now.relabel_configs }
-    requires samples { HasPatterns job.now.metric_relabel_configs }
     ensures { OnOk result (entries.new ≡ entries.old ++ spec.job_entries pages.now t job.now) }
 {
     let targets = targets(alloc, job)?;

@@ -1,8 +1,8 @@
 ghost use Rattle.std.specs.Prelude.{◌≡◌, ◌++◌, ◌∷◌, [], codes, filter, fold, IfOk, OnOk};
-ghost use Rattle.op_base.specs.Labels.{labels_with};
+ghost use Rattle.op_base.specs.Labels.{labels_with_all};
 ghost use Rattle.srv_scrape.specs.Joined as spec;
 
-use crate::labels::{has_name, put_all};
+use crate::labels::has_name;
 use crate::shorter::ShorterFirst;
 use op_base::{Labels, NoMemory, Text};
 use std::alloc::Global;
@@ -20,7 +20,7 @@ pub fn joined(
 {
     let mut labels = target.copy()?;
     if honor {
-        put_all(&mut labels, scraped)?;
+        labels.set_labels(scraped)?;
     } else {
         put_renamed(alloc, &mut labels, target, scraped)?;
     }
@@ -42,7 +42,7 @@ fn put_renamed(
 
 // Puts the scraped labels whose names the target doesn't have.
 fn put_apart(labels: &mut Labels, target: &Labels, scraped: &Labels) -> Result<(), NoMemory>
-    ensures { OnOk result (labels.new ≡ spec.scraped_over labels.old (spec.apart target.now scraped.now)) }
+    ensures { OnOk result (labels.new ≡ labels_with_all labels.old (spec.apart target.now scraped.now)) }
 {
     for place in 0..scraped.len() {
         put_if_apart(
@@ -62,7 +62,7 @@ fn put_if_apart(
     value: &str,
 ) -> Result<(), NoMemory>
     ensures { OnOk result (labels.new
-        ≡ spec.scraped_over labels.old (spec.apart target.now ((name.now, value.now) ∷ []))) }
+        ≡ labels_with_all labels.old (spec.apart target.now ((name.now, value.now) ∷ []))) }
 {
     if has_name(target, name) {
         return Ok(());

@@ -1,6 +1,5 @@
 ghost use Rattle.std.specs.Prelude.{◌≡◌, ◌++◌, ◌∷◌, [], map, IfOk, OnOk};
 ghost use Rattle.std.specs.List.{filter_map};
-ghost use Rattle.op_relabel.specs.Relabelled.{HasPatterns};
 ghost use Rattle.srv_scrape.specs.Pages.{page_at};
 ghost use Rattle.srv_scrape.specs.Scraped as spec;
 ghost use Rattle.srv_scrape.specs.Ticks as ticks;
@@ -10,7 +9,7 @@ use crate::labels::has_name;
 use crate::pages::{Pages, Sample};
 use crate::target::Target;
 use cfg_types::Job;
-use op_base::{Labels, List, Moment, NoMemory};
+use op_base::{Labels, List, METRIC_NAME, Moment, NoMemory};
 use op_relabel::{PreparedStep, prepare, relabel_by};
 use srv_store::Entry;
 use std::alloc::Global;
@@ -26,7 +25,6 @@ pub fn scrape(
     pages: &Pages,
     t: Moment,
 ) -> Result<List<Entry>, NoMemory>
-    requires { HasPatterns job.now.metric_relabel_configs }
     ensures { IfOk result (λ entries. entries
         ≡ spec.scraped (ticks.manner_of job.now) target.now (page_at pages.now target.now.url) t) }
 {
@@ -51,7 +49,6 @@ impl<'a> Model for Manner<'a> {
 }
 
 pub(crate) fn manner_of<'a>(alloc: Global, job: &'a Job) -> Result<Manner<'a>, NoMemory>
-    requires { HasPatterns job.now.metric_relabel_configs }
     ensures { IfOk result (λ manner. manner ≡ ticks.manner_of job.now) }
 {
     Ok(Manner {
@@ -161,7 +158,7 @@ fn all_named(samples: &[Sample]) -> bool
 {
     samples
         .iter()
-        .all(|sample| has_name(&sample.labels, "__name__"))
+        .all(|sample| has_name(&sample.labels, METRIC_NAME))
 }
 
 fn push_entries(entries: &mut List<Entry>, t: Moment, samples: List<Sample>) -> Result<(), NoMemory>
@@ -195,7 +192,7 @@ fn up_entry(target: &Target, t: Moment, value: i64) -> Result<Entry, NoMemory>
     ensures { IfOk result (λ entry. entry ≡ spec.up_entry target.now t value) }
 {
     let mut labels = target.labels.copy()?;
-    labels.set("__name__", "up")?;
+    labels.set(METRIC_NAME, "up")?;
     Ok(Entry {
         labels,
         at: t,

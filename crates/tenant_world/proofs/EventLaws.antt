@@ -17,7 +17,7 @@ use Rattle.op_thin.specs.Compiled.{config_of}
 use Rattle.op_thin.specs.Objects.{rule_fits, probe_fits}
 use Rattle.srv_run.specs.Memories.{Ticked}
 use Rattle.srv_run.specs.Served.{late, tick_of}
-use Rattle.tenant_world.specs.Events.{Event, manifest, given, long, HasNames, HaveNames}
+use Rattle.tenant_world.specs.Events.{ReadEvent, manifest, given, long, HasNames, HaveNames}
 use Rattle.op_report.specs.ReadBack.{views_for}
 use Rattle.tenant_world.specs.Isolation.{IsIsolated}
 use Rattle.tenant_world.specs.Owners.{Own, rule, probe, owner, is_own, stripped, own_events}
@@ -28,7 +28,7 @@ use Rattle.tenant_world.proofs.ObjectLaws.{good-with, inner-own, inner-other, ti
 use Rattle.tenant_world.proofs.RunLaws.{GoodWorld, seen, rule_home, probe_home, IsAnyRule, HasThinTexts, tick-seen, tick-own}
 
 -- what an event is to a namespace, if it is its own or everyone's
-abbrev own_of : List ℕ → Event → Option Own
+abbrev own_of : List ℕ → ReadEvent → Option Own
 own_of n event = cond (is_own n (owner event)) (stripped event) None
 
 abbrev taken_up : List ℕ → Tenant → Option Own → Tenant
@@ -40,7 +40,7 @@ told n tenant None = []
 told n tenant (Some event) = own_said n tenant event
 
 -- an event is seen so, leaves a good world, and says to the namespace what its own world says
-record Seen (n : List ℕ) (world : World) (event : Event) : Type 0 where
+record Seen (n : List ℕ) (world : World) (event : ReadEvent) : Type 0 where
   good : GoodWorld (next world event)
   after : seen n (next world event) ≡ taken_up n (seen n world) (own_of n event)
   views : views_for n (said world event) ≡ told n (seen n world) (own_of n event)
@@ -184,7 +184,7 @@ tick_seen n world number t None good =
           ∙ ap (λ (given : Ticked). cond (is_some (value_at world.served.known n)) (own_tick_view given t ∷ []) []) same;
     }
 
-event-seen : (n : List ℕ) (world : World) (event : Event) → GoodWorld world → HasNames event → Seen n world event
+event-seen : (n : List ℕ) (world : World) (event : ReadEvent) → GoodWorld world → HasNames event → Seen n world event
 event-seen n world (manifest file Broken) good named = record { good = good; after = refl; views = refl }
 event-seen n world (manifest file NotYet) good named = record { good = good; after = refl; views = refl }
 event-seen n world (manifest file (Rule r)) good named = rule-seen n world file r good named
@@ -202,7 +202,7 @@ event-seen n world (given number (Bad shape)) good named = record { good = good;
 event-seen n world (long number) good named = record { good = good; after = refl; views = refl }
 
 -- an event's own part, in front of the others'
-own_first : (n : List ℕ) (event : Event) (events : List Event) → own_events n (event ∷ events) ≡ cons_option (own_of n event) (own_events n events)
+own_first : (n : List ℕ) (event : ReadEvent) (events : List ReadEvent) → own_events n (event ∷ events) ≡ cons_option (own_of n event) (own_events n events)
 own_first n event events =
     elim (is_own n (owner event)) as (λ b. filter_map stripped (cond b (event ∷ filter (λ e. is_own n (owner e)) events) (filter (λ e. is_own n (owner e)) events))
     ≡ cons_option (cond b (stripped event) None) (own_events n events)) [
@@ -215,7 +215,7 @@ own_run_first n tenant None events = refl
 own_run_first n tenant (Some event) events = refl
 
 -- the run is seen as the own run
-run-seen : (n : List ℕ) (world : World) (events : List Event) → GoodWorld world → HaveNames events → views_for n (run world events) ≡ own_run n (seen n world) (own_events n events)
+run-seen : (n : List ℕ) (world : World) (events : List ReadEvent) → GoodWorld world → HaveNames events → views_for n (run world events) ≡ own_run n (seen n world) (own_events n events)
 run-seen n world [] good named = refl
 run-seen n world (event ∷ events) good named =
     let facts = event-seen n world event good named.0 in

@@ -5,7 +5,8 @@ use Rattle.std.specs.List.{AllByRecursion, list_all}
 use Rattle.std.specs.Cmp.{first_so, second_so}
 use Rattle.std.proofs.lemmas.Bool.Decides.{nat_tests}
 use Rattle.op_base.specs.Names.{is_namespace, is_part, is_part_byte, is_lower_or_digit, passes_at}
-use Rattle.op_thin.specs.ThinProbes.{is_thin_text, is_no_dollar}
+use Rattle.op_relabel.specs.Steps.{is_no_dollar}
+use Rattle.op_thin.specs.ThinProbes.{is_thin_text}
 
 -- a byte that the test refuses is no byte that passes
 differs : (p : ℕ → Bool) (b c : ℕ) → p c ≡ false → p b ≡ true → (b == c) ≡ false

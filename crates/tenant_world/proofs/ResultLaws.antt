@@ -18,8 +18,9 @@ use Rattle.ql_eval.specs.Values.{value_of}
 use Rattle.ql_eval.proofs.EnforcedLaws.{value-of-enforced-home}
 use Rattle.srv_rule.specs.Recorded.{recorded_labels, gathered, results_of}
 use Rattle.srv_rule.specs.Rounds.{around}
+use Rattle.op_base.specs.declared.label_names.TheConstants.{NAMESPACE_LABEL}
 use Rattle.op_thin.specs.declared.recording.Recording.{Recording}
-use Rattle.op_thin.specs.Compiled.{enforced_expr, ENFORCED_LABEL}
+use Rattle.op_thin.specs.Compiled.{enforced_expr}
 use Rattle.tenant_world.specs.Tenants.{home_label, written_rule}
 
 -- a name is equal to itself
@@ -42,11 +43,11 @@ pub value-of-rule : (r : Recording) (store : Store) (t : Moment)
 value-of-rule r store t = value-of-enforced-home r.namespace r.tree store t
 
 -- the enforced label among the rule's labels, or put over the results: the same
-pub gathered-of : (n name : List ℕ) (results elements : Vector) → gathered name ((ENFORCED_LABEL, n) ∷ []) [] results elements ≡ gathered name [] (home_label n) results elements
+pub gathered-of : (n name : List ℕ) (results elements : Vector) → gathered name ((NAMESPACE_LABEL.now, n) ∷ []) [] results elements ≡ gathered name [] (home_label n) results elements
 gathered-of n name results [] = refl
 gathered-of n name results (e ∷ es) =
-    ap (cond (has_labels results (recorded_labels name ((ENFORCED_LABEL, n) ∷ []) [] e.0)) None)
-    (gathered-of n name (with_value results (recorded_labels name ((ENFORCED_LABEL, n) ∷ []) [] e.0) e.1) es)
+    ap (cond (has_labels results (recorded_labels name ((NAMESPACE_LABEL.now, n) ∷ []) [] e.0)) None)
+    (gathered-of n name (with_value results (recorded_labels name ((NAMESPACE_LABEL.now, n) ∷ []) [] e.0) e.1) es)
 
 -- the results of a rule are its namespace's
 abbrev pub Own : List ℕ → Vector → Type 0
@@ -61,23 +62,23 @@ own-put n l v (e ∷ m) own h =
       | Greater ↦ (h.0, own-put n l v m own h.1)
     ]
 
-pub gathered-own : (n name : List ℕ) (results elements : Vector) → 0 < length n → Own n results → IfSome (gathered name ((ENFORCED_LABEL, n) ∷ []) [] results elements) (Own n)
+pub gathered-own : (n name : List ℕ) (results elements : Vector) → 0 < length n → Own n results → IfSome (gathered name ((NAMESPACE_LABEL.now, n) ∷ []) [] results elements) (Own n)
 gathered-own n name results [] some h = h
 gathered-own n name results (e ∷ es) some h =
-    let l = recorded_labels name ((ENFORCED_LABEL, n) ∷ []) [] e.0 in
-    elim (has_labels results l) as (λ b. IfSome (cond b None (gathered name ((ENFORCED_LABEL, n) ∷ []) [] (with_value results l e.1) es)) (Own n)) [
+    let l = recorded_labels name ((NAMESPACE_LABEL.now, n) ∷ []) [] e.0 in
+    elim (has_labels results l) as (λ b. IfSome (cond b None (gathered name ((NAMESPACE_LABEL.now, n) ∷ []) [] (with_value results l e.1) es)) (Own n)) [
       | true ↦ tt
       | false ↦ gathered-own n name (with_value results l e.1) es some (own-put n l e.1 results (owned n (labels_with (without_entry e.0 METRIC_NAME.now) METRIC_NAME.now name) some) h)
     ]
 
 -- the same of what an expression comes to
-pub results-of : (n name : List ℕ) (given : Outcome) → results_of name ((ENFORCED_LABEL, n) ∷ []) [] given ≡ results_of name [] (home_label n) given
+pub results-of : (n name : List ℕ) (given : Outcome) → results_of name ((NAMESPACE_LABEL.now, n) ∷ []) [] given ≡ results_of name [] (home_label n) given
 results-of n name (outcome.Vector elements) = gathered-of n name [] elements
 results-of n name (outcome.Scalar v) = gathered-of n name [] (([], v) ∷ [])
 results-of n name (outcome.Clash these those) = refl
 results-of n name outcome.ZeroScalar = refl
 
-pub results-own : (n name : List ℕ) (given : Outcome) → 0 < length n → IfSome (results_of name ((ENFORCED_LABEL, n) ∷ []) [] given) (Own n)
+pub results-own : (n name : List ℕ) (given : Outcome) → 0 < length n → IfSome (results_of name ((NAMESPACE_LABEL.now, n) ∷ []) [] given) (Own n)
 results-own n name (outcome.Vector elements) some = gathered-own n name [] elements some tt
 results-own n name (outcome.Scalar v) some = gathered-own n name [] (([], v) ∷ []) some tt
 results-own n name (outcome.Clash these those) some = tt

@@ -13,7 +13,7 @@ use Rattle.ql_eval.specs.Values.{value_of}
 use Rattle.srv_rule.specs.Recorded.{results_of}
 use Rattle.srv_rule.specs.Rounds.{States, Ran, around, Placed, id_cmp, id_of, last_of, placed_in, placed_of, value_entries, after_results, after_rule, after_rules, gone, gone_entries, without_gone, round_of}
 use Rattle.op_thin.specs.declared.recording.Recording.{Recording}
-use Rattle.op_thin.specs.Compiled.{enforced_expr, file_of, ENFORCED_LABEL}
+use Rattle.op_thin.specs.Compiled.{enforced_expr, file_of}
 use Rattle.tenant_world.specs.Tenants.{home_label, written_rule, written_file}
 use Rattle.tenant_world.proofs.KeyLemmas.{alike}
 use Rattle.tenant_world.proofs.ResultLaws.{Own, same_name, value-of-rule, results-of, results-own}
@@ -22,7 +22,7 @@ use Rattle.tenant_world.proofs.StoreLaws.{of-append, with_all-of}
 
 -- what a rule of the configuration makes of the store, and what the rule as it is written makes of it
 abbrev given : Recording → Store → Moment → Option Vector
-given r store t = results_of r.record_name ((ENFORCED_LABEL, r.namespace) ∷ []) [] (value_of (around [] store t) (enforced_expr r))
+given r store t = results_of r.record_name ((NAMESPACE_LABEL.now, r.namespace) ∷ []) [] (value_of (around [] store t) (enforced_expr r))
 
 given-of : (r : Recording) (store : Store) (t : Moment)
     → given r store t ≡ results_of r.record_name [] (home_label r.namespace) (value_of (around (home_label r.namespace) (of_namespace r.namespace store) t) (written_rule r).expr)

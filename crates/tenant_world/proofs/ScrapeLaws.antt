@@ -9,7 +9,7 @@ use Rattle.op_base.specs.declared.label_names.TheConstants.{NAMESPACE_LABEL}
 use Rattle.form_urlencoded.specs.Form.{append_pair, serialize_pair}
 use Rattle.op_relabel.specs.declared.step.Step.{Step}
 use Rattle.op_relabel.specs.Relabelled.{relabelled}
-use Rattle.op_relabel.specs.Steps.{copy_step, put_step}
+use Rattle.op_relabel.specs.Steps.{is_no_dollar, copy_step, put_step}
 use Rattle.op_relabel.proofs.RelabelLemmas.{relabelled-put, relabelled-copy}
 use Rattle.srv_store.specs.declared.entry.Entry.{Entry}
 use Rattle.srv_store.specs.Stores.{owns, of_namespace}
@@ -22,9 +22,9 @@ use Rattle.srv_scrape.specs.Targets.{url_of, target_labels, query_of, parameters
 use Rattle.srv_scrape.specs.Ticks.{manner_of, job_entries, scraped_entries}
 use Rattle.op_thin.specs.declared.probe.ThinProbe.{ThinProbe}
 use Rattle.op_thin.specs.Compiled.{job_of, probe_steps}
-use Rattle.op_thin.specs.ThinProbes.{is_no_dollar, job_name}
+use Rattle.op_thin.specs.ThinProbes.{job_name}
 use Rattle.tenant_world.specs.ProbeTargets.{probe_target, probe_url}
-use Rattle.tenant_world.specs.Tenants.{plain_manner, probe_entries}
+use Rattle.tenant_world.specs.Tenants.{direct_manner, probe_entries}
 use Rattle.tenant_world.proofs.ObjectLaws.{is_at}
 use Rattle.tenant_world.proofs.ResultLaws.{same_name, others_labels, owned}
 use Rattle.tenant_world.proofs.StoreLaws.{of-append}
@@ -118,7 +118,7 @@ module _ (b c d : ℕ) (namespace name url target : List ℕ) (plain_namespace :
   target-direct = ap (λ l. option_and_then target_from (relabelled (probe_steps probe) l)) starts ∙ ap (option_and_then target_from) steps_lead ∙ gives
 
 -- a metric step puts the namespace, as the forced label does
-left-of : (p : ThinProbe) (target : Target) (sample : Sample) → IsPlain p.namespace → left_of (manner_of (job_of p)) target sample ≡ left_of (plain_manner p.namespace) target sample
+left-of : (p : ThinProbe) (target : Target) (sample : Sample) → IsPlain p.namespace → left_of (manner_of (job_of p)) target sample ≡ left_of (direct_manner p.namespace) target sample
 left-of p target sample plain = ap (left_after [] sample.value) (relabelled-put NAMESPACE_LABEL.now p.namespace [] (joined false target.labels sample.labels) plain)
 
 filter_map-same : {A B : Type 0} (f g : A → Option B) → ((x : A) → f x ≡ g x) → (xs : List A) → filter_map f xs ≡ filter_map g xs
@@ -127,11 +127,11 @@ filter_map-same f g same (x ∷ xs) = λ i. cons_option (same x i) (filter_map-s
 
 -- a scrape by the job is a scrape in the plain manner
 scraped-of : (p : ThinProbe) (target : Target) (page : Option (List Sample)) (t : Moment) → IsPlain p.namespace
-    → scraped (manner_of (job_of p)) target page t ≡ scraped (plain_manner p.namespace) target page t
+    → scraped (manner_of (job_of p)) target page t ≡ scraped (direct_manner p.namespace) target page t
 scraped-of p target None t plain = refl
 scraped-of p target (Some samples) t plain =
     ap (entries_of target t)
-    (filter_map-same (left_of (manner_of (job_of p)) target) (left_of (plain_manner p.namespace) target) (λ s. left-of p target s plain) samples)
+    (filter_map-same (left_of (manner_of (job_of p)) target) (left_of (direct_manner p.namespace) target) (λ s. left-of p target s plain) samples)
 
 -- the texts of a probe as they have to be
 abbrev pub IsThin : ThinProbe → Type 0
@@ -174,17 +174,17 @@ own-consed n t None rest h own = own
 own-consed n t (Some x) rest h own = (h, own)
 
 own-samples : (p : ThinProbe) (t : Moment) (samples : List Sample) → 0 < length p.namespace
-    → OwnEntries p.namespace (map (entry_of t) (all_left (plain_manner p.namespace) (probe_target p) samples))
+    → OwnEntries p.namespace (map (entry_of t) (all_left (direct_manner p.namespace) (probe_target p) samples))
 own-samples p t [] some = tt
 own-samples p t (s ∷ samples) some =
     let l = joined false (probe_target p).labels s.labels in
-    own-consed p.namespace t (left_with s.value (labels_with l NAMESPACE_LABEL.now p.namespace)) (all_left (plain_manner p.namespace) (probe_target p) samples)
+    own-consed p.namespace t (left_with s.value (labels_with l NAMESPACE_LABEL.now p.namespace)) (all_left (direct_manner p.namespace) (probe_target p) samples)
     (own-left p.namespace s.value (labels_with l NAMESPACE_LABEL.now p.namespace) (owned p.namespace l some)) (own-samples p t samples some)
 
-own-page : (p : ThinProbe) (t : Moment) (page : Option (List Sample)) → 0 < length p.namespace → OwnEntries p.namespace (scraped (plain_manner p.namespace) (probe_target p) page t)
+own-page : (p : ThinProbe) (t : Moment) (page : Option (List Sample)) → 0 < length p.namespace → OwnEntries p.namespace (scraped (direct_manner p.namespace) (probe_target p) page t)
 own-page p t None some = own-up p t (pos 0)
 own-page p t (Some samples) some =
-    let left = all_left (plain_manner p.namespace) (probe_target p) samples in
+    let left = all_left (direct_manner p.namespace) (probe_target p) samples in
     elim (all_named left) as (λ b. OwnEntries p.namespace (cond b (map (entry_of t) left ++ up_entry (probe_target p) t (pos 1) ∷ []) (failed_scrape (probe_target p) t))) [
       | true ↦ own-append p.namespace (map (entry_of t) left) (up_entry (probe_target p) t (pos 1) ∷ []) (own-samples p t samples some) (own-up p t (pos 1))
       | false ↦ own-up p t (pos 0)

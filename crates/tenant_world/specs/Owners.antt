@@ -10,7 +10,7 @@ use Rattle.op_thin.specs.declared.probe.ThinProbe.{ThinProbe}
 use Rattle.op_thin.specs.declared.item.Item.{Item}
 use Rattle.op_thin.specs.declared.item.Item.TheVariants.{Broken, NotYet, Rule, Probe}
 use Rattle.srv_scrape.specs.declared.pages.Sample.{Sample}
-use Rattle.tenant_world.specs.Events.{Event, manifest, given, long}
+use Rattle.tenant_world.specs.Events.{ReadEvent, manifest, given, long}
 
 pub data Owner : Type 0 where
   of : List ℕ → Owner
@@ -32,7 +32,7 @@ line_owner NotYetInput = nobody
 line_owner (Bad shape) = nobody
 
 -- whose an event is
-abbrev pub owner : Event → Owner
+abbrev pub owner : ReadEvent → Owner
 owner (manifest file item) = item_owner item
 owner (given number line) = line_owner line
 owner (long number) = nobody
@@ -65,11 +65,11 @@ stripped_line NotYetInput = None
 stripped_line (Bad shape) = None
 
 -- an event without its file or number, where it is anyone's
-abbrev pub stripped : Event → Option Own
+abbrev pub stripped : ReadEvent → Option Own
 stripped (manifest file item) = stripped_item item
 stripped (given number line) = stripped_line line
 stripped (long number) = None
 
 -- a tenant's own events and everyone's, in their order
-abbrev pub own_events : List ℕ → List Event → List Own
+abbrev pub own_events : List ℕ → List ReadEvent → List Own
 own_events n events = filter_map stripped (filter (λ event. is_own n (owner event)) events)

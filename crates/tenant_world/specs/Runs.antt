@@ -20,7 +20,7 @@ use Rattle.op_thin.specs.Judged.{EXPR_PATH, skip_rule}
 use Rattle.op_thin.specs.Objects.{Present, nothing, is_taken, with_item}
 use Rattle.srv_run.specs.declared.event.Event.TheVariants as server
 use Rattle.srv_run.specs.Served.{Served, new_served, late, with_known, served_after, reports_of}
-use Rattle.tenant_world.specs.Events.{Event, manifest, given, long}
+use Rattle.tenant_world.specs.Events.{ReadEvent, manifest, given, long}
 
 -- the objects that are present, and the server
 pub record World : Type 0 where
@@ -106,23 +106,23 @@ line_said config served number NotYetInput = to_all (view.NotYetLine number) ∷
 line_said config served number (Bad shape) = to_all (view.Bad (rule_text shape.rule) number shape.path) ∷ []
 
 -- what stands after an event
-abbrev pub next : World → Event → World
+abbrev pub next : World → ReadEvent → World
 next world (manifest file item) = after_item world item (is_taken world.objects item)
 next world (given number line) = record world { served = line_served (config_of world.objects) world.served line }
 next world (long number) = world
 
 -- what an event says
-abbrev pub said : World → Event → List Report
+abbrev pub said : World → ReadEvent → List Report
 said world (manifest file item) = item_report file item (is_taken world.objects item) ∷ []
 said world (given number line) = line_said (config_of world.objects) world.served number line
 said world (long number) = to_all (view.Long number) ∷ []
 
 -- the reports of events, in their order
-abbrev pub run : World → List Event → List Report
+abbrev pub run : World → List ReadEvent → List Report
 run world [] = []
 run world (event ∷ events) = said world event ++ run (next world event) events
 
 -- what the events leave
-abbrev pub left_by : World → List Event → World
+abbrev pub left_by : World → List ReadEvent → World
 left_by world [] = world
 left_by world (event ∷ events) = left_by (next world event) events

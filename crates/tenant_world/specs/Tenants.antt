@@ -61,12 +61,12 @@ abbrev pub written_files : Map ThinRule → List RuleFile
 written_files rules = in_order (map written_file (filter_map recording_of (values_of rules)))
 
 -- samples are renamed where they clash, no step is run, and the own label is put over all
-abbrev pub plain_manner : List ℕ → Manner
-plain_manner n = record { honor = false; steps = []; force = home_label n }
+abbrev pub direct_manner : List ℕ → Manner
+direct_manner n = record { honor = false; steps = []; force = home_label n }
 
 -- the entries of a probe's scrape
 abbrev pub probe_entries : List ℕ → Pages → Moment → ThinProbe → List Entry
-probe_entries n pages t p = scraped (plain_manner n) (probe_target p) (page_at pages (probe_url p)) t
+probe_entries n pages t p = scraped (direct_manner n) (probe_target p) (page_at pages (probe_url p)) t
 
 -- the entries of all its scrapes, by the names of its probes
 abbrev pub own_entries : List ℕ → Tenant → Moment → List Entry

@@ -10,4 +10,4 @@ use Rattle.cfg_types.proofs.steps.steps_array.Goals as goal
 pub returns : goal.returns
 returns c = view-Array c.in_ok-step_values.field-0
     ∙ ap array (ap shown.items_of c.in_ok-step_values.ensures ∙ sym (array_of_each step_json c.as_slice.result.now)
-    ∙ ap (λ steps. items_of (elements_of (map step_json steps))) c.as_slice.ensures)
+    ∙ ap (λ steps. items_of (elements_of (map step_json steps))) c.as_slice.ensures.steps)

@@ -4,8 +4,8 @@ use Rattle.cfg_types.specs.Written.{HasSpans}
 use Rattle.op_thin.specs.declared.rule.ThinRule.{ThinRule}
 use Rattle.op_thin.specs.declared.probe.ThinProbe.{ThinProbe}
 use Rattle.op_thin.specs.Judged.{IsTyped}
-use Rattle.op_thin.specs.CompiledPatterns.{JobsHavePatterns, RulesHavePatterns}
-use Rattle.op_thin.proofs.CompiledLemmas.{config_spans, jobs_patterns, rules_patterns}
+use Rattle.op_thin.specs.CompiledPatterns.{RulesHavePatterns}
+use Rattle.op_thin.proofs.CompiledLemmas.{config_spans, rules_patterns}
 use Rattle.op_thin.proofs.compiled.compile.Goals as goal
 
 pub returns-clause-config : goal.returns-clause-config
@@ -13,9 +13,6 @@ returns-clause-config c = search rules
 
 pub returns-clause-spans : goal.returns-clause-spans
 returns-clause-spans c = subst HasSpans (sym (returns-clause-config c)) (config_spans c.args.objects)
-
-pub returns-clause-jobs : goal.returns-clause-jobs
-returns-clause-jobs c = subst JobsHavePatterns (sym (returns-clause-config c)) (jobs_patterns c.args.objects)
 
 pub returns-clause-rules : goal.returns-clause-rules
 returns-clause-rules c =

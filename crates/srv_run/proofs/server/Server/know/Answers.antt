@@ -7,9 +7,8 @@ use Rattle.srv_run.proofs.server.Server.know.Goals as goal
 
 pub invariant_of-self-2 : goal.invariant_of-self-2
 invariant_of-self-2 c = (
-  c.self.invariant.0,
   subst AreKnown (sym c.in_ok-insert.ensures.ok)
       (known-more c.self.inside.known c.in_ok-name.name tt
-      (subst (λ name. is_namespace name ≡ true) (sym (c.in_ok-name.ensures ∙ c.as_str.ensures)) c.requires) c.self.invariant.1),
-  c.self.invariant.2,
+      (subst (λ name. is_namespace name ≡ true) (sym (c.in_ok-name.ensures ∙ c.as_str.ensures)) c.requires) c.self.invariant.0),
+  c.self.invariant.1,
 )

@@ -13,7 +13,7 @@ use Rattle.srv_run.proofs.server.Server.run.Goals as goal
 
 pub returns-clause-named : goal.returns-clause-named
 returns-clause-named c = subst AreNamed (sym c.in_ok-reports.ensures)
-    (lines-named (keys_of c.self.inside.known) (keys_of c.self.inside.known) (told c.as_slice.result.now c.behind-added.result.now) c.args.t c.self.invariant.1)
+    (lines-named (keys_of c.self.inside.known) (keys_of c.self.inside.known) (told c.as_slice.result.now c.behind-added.result.now) c.args.t c.self.invariant.0)
 
 pub returns-clause-reports : goal.returns-clause-reports
 returns-clause-reports c =

@@ -1,7 +1,7 @@
 use Rattle.std.proofs.Common.{◌≡◌, Bool, List, [], ◌∷◌, ◌||◌, map, refl, sym, ap, ◌∙◌}
 use Rattle.std.specs.List.{list_any}
-use Rattle.op_input.specs.Fields.{is_text}
-use Rattle.op_input.proofs.fields.may_stand.Goals as goal
+use Rattle.op_json.specs.Reading.{is_text}
+use Rattle.op_json.proofs.reading.may_stand.Goals as goal
 
 any_shown : {A B : Type 0} (test : B → Bool) (shown : A → B) (xs : List A) → list_any (λ x. test (shown x)) xs ≡ list_any test (map shown xs)
 any_shown test shown [] = refl

@@ -3,8 +3,8 @@ use Rattle.std.proofs.lemmas.Str.{IsUtf8-from_is_utf8, is_utf8-from_IsUtf8}
 use Rattle.std.specs.Str.{IsUtf8, is_utf8}
 use Rattle.serde_json.specs.Data.{Data}
 use Rattle.serde_json.specs.Read.{read}
-use Rattle.op_input.specs.Lines.{json_of}
-use Rattle.op_input.proofs.line.read_json.Goals as goal
+use Rattle.op_json.specs.Reading.{json_of}
+use Rattle.op_json.proofs.reading.read_json.Goals as goal
 
 is_json : (bytes : List ℕ) (d : Data) → IsUtf8 bytes → read bytes ≡ Some d → Some d ≡ json_of bytes
 is_json bytes d utf8 is = sym is ∙ ap (λ b. if b then read bytes else None) (sym (is_utf8-from_IsUtf8 bytes utf8))
