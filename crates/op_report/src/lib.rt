@@ -7,6 +7,7 @@
 
 mod answer;
 mod line;
+mod listed;
 mod read_back;
 mod tick;
 mod view;

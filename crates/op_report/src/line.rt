@@ -6,6 +6,7 @@ ghost use Rattle.serde_json.specs.Data.{no_members};
 ghost use Rattle.op_report.specs.Lines as spec;
 ghost use Rattle.op_report.specs.Lines.{IsOneLine};
 
+use crate::listed::{Listed, array_value};
 use crate::tick::tick_value;
 use crate::view::{Also, Report, View};
 use op_base::{List, Moment, NoMemory, Text};
@@ -170,18 +171,12 @@ fn own_fields(
     ensures { IfOk result (λ fields. shown.members_view fields.entries
         ≡ members_after no_members (fields_of (spec.own_fields deleted key.now answer.now also.now))) }
 {
-    let also = also_array(alloc, also)?;
+    let also = array_value(alloc, also)?;
     let mut fields = Map::new(alloc);
     put_field(&mut fields, alloc, "also", also)?;
     put_text(&mut fields, alloc, "answer", answer.as_str())?;
     put_text(&mut fields, alloc, change_word(deleted), key.as_str())?;
     Ok(fields)
-}
-
-fn also_array(alloc: Global, also: &List<Also>) -> Result<Value, NoMemory>
-    ensures { IfOk result (λ value. shown.view value ≡ data_of (array_of (map spec.also_json also.now))) }
-{
-    Ok(Value::Array(also_values(alloc, also.as_slice())?))
 }
 
 fn change_word(deleted: bool) -> &'static str
@@ -199,26 +194,19 @@ fn borrowed(text: &Option<Text>) -> Option<&str>
     }
 }
 
-fn also_values(alloc: Global, also: &[Also]) -> Result<Vec<Value>, NoMemory>
-    ensures { IfOk result (λ values. map shown.view values.items
-        ≡ map (λ one. data_of (spec.also_json one)) also.now) }
-{
-    let mut values = Vec::new(alloc);
-    for one in also {
-        push_item(&mut values, also_value(alloc, one)?)?;
-    }
-    Ok(values)
-}
+impl Listed for Also {
+    ghost use Rattle.op_report.specs.Lines.{also_json};
 
-fn also_value(alloc: Global, also: &Also) -> Result<Value, NoMemory>
-    ensures { IfOk result (λ value. shown.view value ≡ data_of (spec.also_json also.now)) }
-{
-    let mut texts = Vec::new(alloc);
-    push_text(&mut texts, alloc, Some(also.key.as_str()))?;
-    push_text(&mut texts, alloc, Some(also.answer.as_str()))?;
-    push_text(&mut texts, alloc, borrowed(&also.rule))?;
-    push_text(&mut texts, alloc, borrowed(&also.path))?;
-    Ok(Value::Array(texts))
+    ghost json = { also_json };
+
+    fn value(&self, alloc: Global) -> Result<Value, NoMemory> {
+        let mut texts = Vec::new(alloc);
+        push_text(&mut texts, alloc, Some(self.key.as_str()))?;
+        push_text(&mut texts, alloc, Some(self.answer.as_str()))?;
+        push_text(&mut texts, alloc, borrowed(&self.rule))?;
+        push_text(&mut texts, alloc, borrowed(&self.path))?;
+        Ok(Value::Array(texts))
+    }
 }
 
 fn push_text(values: &mut Vec<Value>, alloc: Global, text: Option<&str>) -> Result<(), NoMemory>

@@ -1,10 +1,11 @@
-ghost use Rattle.std.specs.Prelude.{◌≡◌, map, IfOk};
+ghost use Rattle.std.specs.Prelude.{◌≡◌, IfOk};
 ghost use Rattle.serde_json.specs.View as shown;
-ghost use Rattle.op_json.specs.Json.{data_of, array_of, whole};
+ghost use Rattle.op_json.specs.Json.{data_of, whole};
 ghost use Rattle.op_json.specs.Json as json;
 ghost use Rattle.op_report.specs.Lines.{view_json};
 ghost use Rattle.op_report.specs.Ticks as spec;
 
+use crate::listed::{Listed, array_value};
 use crate::view::{AlertView, View};
 use op_base::{Labels, List, Moment, NoMemory, Text};
 use op_json::{push_item, put_field, put_text};
@@ -22,9 +23,9 @@ pub fn tick_value(
     ensures { IfOk result (λ value. shown.view value
         ≡ data_of (view_json (View.Tick alerts.now failed.now stored.now at))) }
 {
-    let alerts = alerts_array(alloc, alerts)?;
-    let failed = failed_array(alloc, failed)?;
-    let stored = stored_array(alloc, stored)?;
+    let alerts = array_value(alloc, alerts)?;
+    let failed = array_value(alloc, failed)?;
+    let stored = array_value(alloc, stored)?;
     let tick = whole_value(at.0);
     let mut fields = Map::new(alloc);
     put_field(&mut fields, alloc, "alerts", alerts)?;
@@ -61,30 +62,17 @@ fn labels_value(alloc: Global, labels: &Labels) -> Result<Value, NoMemory>
     Ok(Value::Object(fields))
 }
 
-fn stored_array(alloc: Global, stored: &List<(Labels, Option<i64>)>) -> Result<Value, NoMemory>
-    ensures { IfOk result (λ value. shown.view value ≡ data_of (array_of (map spec.stored_json stored.now))) }
-{
-    Ok(Value::Array(stored_values(alloc, stored.as_slice())?))
-}
+impl Listed for (Labels, Option<i64>) {
+    ghost use Rattle.op_report.specs.Ticks.{stored_json};
 
-fn stored_values(alloc: Global, stored: &[(Labels, Option<i64>)]) -> Result<Vec<Value>, NoMemory>
-    ensures { IfOk result (λ values. map shown.view values.items
-        ≡ map (λ one. data_of (spec.stored_json one)) stored.now) }
-{
-    let mut values = Vec::new(alloc);
-    for one in stored {
-        push_item(&mut values, stored_value(alloc, one)?)?;
+    ghost json = { stored_json };
+
+    fn value(&self, alloc: Global) -> Result<Value, NoMemory> {
+        let mut items = Vec::new(alloc);
+        push_item(&mut items, labels_value(alloc, &self.0)?)?;
+        push_item(&mut items, value_value(self.1))?;
+        Ok(Value::Array(items))
     }
-    Ok(values)
-}
-
-fn stored_value(alloc: Global, stored: &(Labels, Option<i64>)) -> Result<Value, NoMemory>
-    ensures { IfOk result (λ value. shown.view value ≡ data_of (spec.stored_json stored.now)) }
-{
-    let mut items = Vec::new(alloc);
-    push_item(&mut items, labels_value(alloc, &stored.0)?)?;
-    push_item(&mut items, value_value(stored.1))?;
-    Ok(Value::Array(items))
 }
 
 fn value_value(value: Option<i64>) -> Value
@@ -96,61 +84,35 @@ fn value_value(value: Option<i64>) -> Value
     }
 }
 
-fn failed_array(alloc: Global, failed: &List<(Text, Text, u64)>) -> Result<Value, NoMemory>
-    ensures { IfOk result (λ value. shown.view value ≡ data_of (array_of (map spec.failed_json failed.now))) }
-{
-    Ok(Value::Array(failed_values(alloc, failed.as_slice())?))
-}
+impl Listed for (Text, Text, u64) {
+    ghost use Rattle.op_report.specs.Ticks.{failed_json};
 
-fn failed_values(alloc: Global, failed: &[(Text, Text, u64)]) -> Result<Vec<Value>, NoMemory>
-    ensures { IfOk result (λ values. map shown.view values.items
-        ≡ map (λ one. data_of (spec.failed_json one)) failed.now) }
-{
-    let mut values = Vec::new(alloc);
-    for one in failed {
-        push_item(&mut values, failed_value(alloc, one)?)?;
+    ghost json = { failed_json };
+
+    fn value(&self, alloc: Global) -> Result<Value, NoMemory> {
+        let mut items = Vec::new(alloc);
+        push_item(&mut items, text_value(alloc, self.0.as_str())?)?;
+        push_item(&mut items, text_value(alloc, self.1.as_str())?)?;
+        push_item(&mut items, Value::from(self.2))?;
+        Ok(Value::Array(items))
     }
-    Ok(values)
 }
 
-fn failed_value(alloc: Global, failed: &(Text, Text, u64)) -> Result<Value, NoMemory>
-    ensures { IfOk result (λ value. shown.view value ≡ data_of (spec.failed_json failed.now)) }
-{
-    let mut items = Vec::new(alloc);
-    push_item(&mut items, text_value(alloc, failed.0.as_str())?)?;
-    push_item(&mut items, text_value(alloc, failed.1.as_str())?)?;
-    push_item(&mut items, Value::from(failed.2))?;
-    Ok(Value::Array(items))
-}
+impl Listed for AlertView {
+    ghost use Rattle.op_report.specs.Ticks.{alert_json};
 
-fn alerts_array(alloc: Global, alerts: &List<AlertView>) -> Result<Value, NoMemory>
-    ensures { IfOk result (λ value. shown.view value ≡ data_of (array_of (map spec.alert_json alerts.now))) }
-{
-    Ok(Value::Array(alert_values(alloc, alerts.as_slice())?))
-}
+    ghost json = { alert_json };
 
-fn alert_values(alloc: Global, alerts: &[AlertView]) -> Result<Vec<Value>, NoMemory>
-    ensures { IfOk result (λ values. map shown.view values.items
-        ≡ map (λ one. data_of (spec.alert_json one)) alerts.now) }
-{
-    let mut values = Vec::new(alloc);
-    for one in alerts {
-        push_item(&mut values, alert_value(alloc, one)?)?;
+    fn value(&self, alloc: Global) -> Result<Value, NoMemory> {
+        let receivers = array_value(alloc, &self.receivers)?;
+        let mut items = Vec::new(alloc);
+        push_item(&mut items, labels_value(alloc, &self.labels)?)?;
+        push_item(&mut items, text_value(alloc, state_word(self.firing))?)?;
+        push_item(&mut items, whole_value(self.first.0))?;
+        push_item(&mut items, Value::Bool(self.muted))?;
+        push_item(&mut items, receivers)?;
+        Ok(Value::Array(items))
     }
-    Ok(values)
-}
-
-fn alert_value(alloc: Global, alert: &AlertView) -> Result<Value, NoMemory>
-    ensures { IfOk result (λ value. shown.view value ≡ data_of (spec.alert_json alert.now)) }
-{
-    let receivers = reached_array(alloc, &alert.receivers)?;
-    let mut items = Vec::new(alloc);
-    push_item(&mut items, labels_value(alloc, &alert.labels)?)?;
-    push_item(&mut items, text_value(alloc, state_word(alert.firing))?)?;
-    push_item(&mut items, whole_value(alert.first.0))?;
-    push_item(&mut items, Value::Bool(alert.muted))?;
-    push_item(&mut items, receivers)?;
-    Ok(Value::Array(items))
 }
 
 fn state_word(firing: bool) -> &'static str
@@ -159,28 +121,15 @@ fn state_word(firing: bool) -> &'static str
     if firing { "firing" } else { "pending" }
 }
 
-fn reached_array(alloc: Global, reached: &List<(Text, Labels)>) -> Result<Value, NoMemory>
-    ensures { IfOk result (λ value. shown.view value ≡ data_of (array_of (map spec.reached_json reached.now))) }
-{
-    Ok(Value::Array(reached_values(alloc, reached.as_slice())?))
-}
+impl Listed for (Text, Labels) {
+    ghost use Rattle.op_report.specs.Ticks.{reached_json};
 
-fn reached_values(alloc: Global, reached: &[(Text, Labels)]) -> Result<Vec<Value>, NoMemory>
-    ensures { IfOk result (λ values. map shown.view values.items
-        ≡ map (λ one. data_of (spec.reached_json one)) reached.now) }
-{
-    let mut values = Vec::new(alloc);
-    for one in reached {
-        push_item(&mut values, reached_value(alloc, one)?)?;
+    ghost json = { reached_json };
+
+    fn value(&self, alloc: Global) -> Result<Value, NoMemory> {
+        let mut items = Vec::new(alloc);
+        push_item(&mut items, text_value(alloc, self.0.as_str())?)?;
+        push_item(&mut items, labels_value(alloc, &self.1)?)?;
+        Ok(Value::Array(items))
     }
-    Ok(values)
-}
-
-fn reached_value(alloc: Global, reached: &(Text, Labels)) -> Result<Value, NoMemory>
-    ensures { IfOk result (λ value. shown.view value ≡ data_of (spec.reached_json reached.now)) }
-{
-    let mut items = Vec::new(alloc);
-    push_item(&mut items, text_value(alloc, reached.0.as_str())?)?;
-    push_item(&mut items, labels_value(alloc, &reached.1)?)?;
-    Ok(Value::Array(items))
 }
