@@ -1,7 +1,7 @@
 ghost use Rattle.std.specs.Prelude.{◌≡◌, true, pos, map, option_map, ◌∷◌, ◌++◌, [], IfOk, IfSome, OnOk};
 ghost use Rattle.serde_json.specs.View as shown;
 ghost use Rattle.op_base.specs.Names.{is_namespace};
-ghost use Rattle.op_json.specs.Json.{data_of, members_after, fields_of, array_of};
+ghost use Rattle.op_json.specs.Json.{data_of, members_after, fields_of};
 ghost use Rattle.serde_json.specs.Data.{no_members};
 ghost use Rattle.op_report.specs.Lines as spec;
 ghost use Rattle.op_report.specs.Lines.{IsOneLine};
