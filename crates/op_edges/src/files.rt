@@ -1,9 +1,9 @@
-ghost use Rattle.std.specs.Prelude.{◌≡◌, IfOk, OnOk, OnErr};
+ghost use Rattle.std.specs.Prelude.{◌≡◌, false, IfOk, OnOk, OnErr};
 ghost use Rattle.std.specs.Option.{option_copied};
 ghost use Rattle.op_base.specs.Maps.{value_at};
-ghost use Rattle.op_edges.specs.Folders.{files_of, names_of, file_of, with_folder, with_file, read_within, FitsIn, AreInOrder};
+ghost use Rattle.op_edges.specs.Folders.{files_of, names_of, file_of, with_folder, with_file, read_within, FitsIn, AreInOrder, is_failed};
 
-use crate::folder::FileRead;
+use crate::folder::{FileRead, FolderError};
 use op_base::{List, NoMemory, Table, Text};
 use std::alloc::Global;
 
@@ -34,12 +34,17 @@ pub(crate) fn put_in(
     folders.insert_in(alloc, outer, inner, bytes)
 }
 
-pub(crate) fn list_in(alloc: Global, folders: &Folders, dir: &str) -> Result<List<Text>, NoMemory>
+pub(crate) fn list_in(
+    alloc: Global,
+    folders: &Folders,
+    dir: &str,
+) -> Result<List<Text>, FolderError>
     ensures names { IfOk result (λ names. names ≡ names_of folders.now dir.now) }
     ensures order { IfOk result AreInOrder }
+    ensures sure { is_failed result ≡ false }
 {
     match folders.get(dir) {
-        Some(files) => files.keys(alloc),
+        Some(files) => Ok(files.keys(alloc)?),
         None => Ok(List::new(alloc)),
     }
 }
@@ -59,10 +64,11 @@ pub(crate) fn read_in(
     dir: &str,
     name: &str,
     room: usize,
-) -> Result<FileRead, NoMemory>
+) -> Result<FileRead, FolderError>
     ensures read { IfOk result
         (λ read. read ≡ read_within room (file_of folders.now dir.now name.now)) }
     ensures bound { IfOk result (FitsIn room) }
+    ensures sure { is_failed result ≡ false }
 {
     match file_in(folders, dir, name) {
         Some(bytes) => read_bytes(alloc, bytes.as_slice(), room),
@@ -70,9 +76,10 @@ pub(crate) fn read_in(
     }
 }
 
-fn read_bytes(alloc: Global, bytes: &[u8], room: usize) -> Result<FileRead, NoMemory>
+fn read_bytes(alloc: Global, bytes: &[u8], room: usize) -> Result<FileRead, FolderError>
     ensures read { IfOk result (λ read. read ≡ read_within room bytes.now) }
     ensures bound { IfOk result (FitsIn room) }
+    ensures sure { is_failed result ≡ false }
 {
     if room < bytes.len() {
         return Ok(FileRead::Longer);

@@ -98,11 +98,9 @@ impl Held {
         drop_front(&mut self.buffer, self.at);
         self.at = 0;
         let size = self.buffer.len();
-        let got = read_room(
-            source,
-            &mut self.buffer,
-            CHUNK.min(MOST_BYTES + 1 - self.came),
-        );
+        let mut chunk = [0; CHUNK];
+        let room = CHUNK.min(MOST_BYTES + 1 - self.came);
+        let got = read_into(source, &mut chunk[..room], &mut self.buffer);
         self.came += self.buffer.len() - size;
         got
     }
@@ -117,29 +115,7 @@ fn drop_front(buffer: &mut Vec<u8>, count: usize)
     buffer.truncate(rest);
 }
 
-/// Reads at most `room` bytes behind those of the buffer.
-fn read_room<S: Source>(source: &mut S, buffer: &mut Vec<u8>, room: usize) -> Result<Got, NoMemory>
-    requires some { 0 < room }
-    requires most { room ≤ CHUNK }
-    ensures told { Told (S.left source.old) (S.left source.new)
-        (λ before after. OnOk result (buffer.old.items ++ before ≡ buffer.new.items ++ after)) }
-    ensures sum { Told (S.left source.old) (S.left source.new)
-        (λ before after. OnOk result
-        (vec_len buffer.new + length after ≡ vec_len buffer.old + length before)) }
-    ensures nothing { Told (S.left source.old) (S.left source.new)
-        (λ before after. result ≡ Ok Got.Nothing → after ≡ []) }
-    ensures front { take (vec_len buffer.old) buffer.new.items ≡ buffer.old.items }
-    ensures least { vec_len buffer.old ≤ vec_len buffer.new }
-    ensures most { vec_len buffer.new ≤ vec_len buffer.old + room }
-    ensures more { result ≡ Ok Got.More → vec_len buffer.old < vec_len buffer.new }
-    ensures same { result ≢ Ok Got.More → buffer.new.items ≡ buffer.old.items }
-    ensures later { S.faults source.old ≤ S.faults source.new }
-    ensures failed { result ≡ Ok Got.Failed → Rose (S.faults source.old) (S.faults source.new) }
-{
-    let mut chunk = [0; CHUNK];
-    read_into(source, &mut chunk[..room], buffer)
-}
-
+/// Reads as many bytes as `chunk` has room for behind those of the buffer.
 fn read_into<S: Source>(
     source: &mut S,
     chunk: &mut [u8],

@@ -246,10 +246,7 @@ impl Folder for MemFolder {
         if fails {
             return Err(FolderError::Failed);
         }
-        match list_in(alloc, &self.folders, dir) {
-            Ok(names) => Ok(names),
-            Err(NoMemory) => Err(FolderError::NoMemory),
-        }
+        list_in(alloc, &self.folders, dir)
     }
 
     fn read_file(
@@ -274,9 +271,6 @@ impl Folder for MemFolder {
         if fails {
             return Err(FolderError::Failed);
         }
-        match read_in(alloc, &self.folders, dir, name, room) {
-            Ok(read) => Ok(read),
-            Err(NoMemory) => Err(FolderError::NoMemory),
-        }
+        read_in(alloc, &self.folders, dir, name, room)
     }
 }

@@ -131,10 +131,7 @@ impl Folder for SureFolder {
         ensures content { self.new ≡ self.old }
         ensures sure { is_failed result ≡ false }
     {
-        match list_in(alloc, &self.folders, dir) {
-            Ok(names) => Ok(names),
-            Err(NoMemory) => Err(FolderError::NoMemory),
-        }
+        list_in(alloc, &self.folders, dir)
     }
 
     fn read_file(
@@ -149,9 +146,6 @@ impl Folder for SureFolder {
         ensures content { self.new ≡ self.old }
         ensures sure { is_failed result ≡ false }
     {
-        match read_in(alloc, &self.folders, dir, name, room) {
-            Ok(read) => Ok(read),
-            Err(NoMemory) => Err(FolderError::NoMemory),
-        }
+        read_in(alloc, &self.folders, dir, name, room)
     }
 }
