@@ -1,11 +1,12 @@
 -- Label sets, after the Prometheus data model, and the tags of objects, after Kubernetes: finite
 -- maps from names to texts, in the order of the names.
-use Rattle.std.specs.Prelude.{◌≡◌, ℕ, ◌<◌, ◌==◌, Bool, List, [], ◌∷◌, fold, length, slice_index_or}
+use Rattle.std.specs.Prelude.{◌≡◌, ℕ, ◌<◌, ◌==◌, Bool, true, List, [], ◌∷◌, ◌++◌, fold, length, slice_index_or}
 use Rattle.std.specs.List.{AllByRecursion}
 use Rattle.std.specs.declared.cmp.Ordering.{Ordering}
 use Rattle.std.specs.Ordering.{nat_cmp, on, then_cmp, eq_of_both, eq_by_cmp}
 use Rattle.std.specs.Cmp.{both_tied}
-use Rattle.std.specs.Cmp.Lexicographic.{pointwise, slice_cmp, lists_ties, texts_ties}
+use Rattle.std.specs.Cmp.Lexicographic.{pointwise, slice_cmp, lists_ties, texts_ties, bytes_decides}
+use Rattle.std.specs.Hash as fed
 use Rattle.op_base.specs.Maps.{Map, IsMap, with_entry, without_entry}
 
 -- names, each with its text
@@ -53,3 +54,13 @@ labels_cmp = slice_cmp entry_cmp
 pub labels_ties : (these those : Texts) → pointwise entry_eq these those ≡ eq_by_cmp labels_cmp these those
 labels_ties = lists_ties entry_cmp (λ this that.
     both_tied _ _ (slice_cmp nat_cmp this.0 that.0) (slice_cmp nat_cmp this.1 that.1) (texts_ties this.0 that.0) (texts_ties this.1 that.1))
+
+-- what a label set gives a hasher: its entries, each as its two texts
+abbrev pub labels_fed : Texts → fed.HashWrites
+labels_fed = fed.slice (λ entry. fed.str entry.0 ++ fed.str entry.1)
+
+-- equal label sets give a hasher the same
+pub labels_fed_alike : (these those : Texts) → pointwise entry_eq these those ≡ true → labels_fed these ≡ labels_fed those
+labels_fed_alike = (fed.items_Alike (fed.and-Alike
+    (fed.on_Alike (λ (entry : List ℕ × List ℕ). entry.0) (fed.same_Alike fed.str bytes_decides))
+    (fed.on_Alike (λ (entry : List ℕ × List ℕ). entry.1) (fed.same_Alike fed.str bytes_decides)))).fed

@@ -10,6 +10,7 @@ use crate::tags::Tags;
 use crate::text::Text;
 use std::alloc::Global;
 use std::cmp::Ordering;
+use std::hash::{Hash, Hasher};
 use std::marker::Model;
 
 /// A label set of the Prometheus data model: a finite map from names to texts that aren't empty.
@@ -193,5 +194,17 @@ impl Ord for Labels {
 
     fn cmp(&self, other: &Labels) -> Ordering {
         self.entries.cmp(&other.entries)
+    }
+}
+
+impl Hash for Labels {
+    ghost use Rattle.op_base.specs.Labels.{labels_fed, labels_fed_alike};
+
+    ghost hash_input = { labels_fed };
+
+    ghost respects_eq = { labels_fed_alike };
+
+    fn hash<H: Hasher>(&self, state: &mut H) {
+        self.entries.hash(state);
     }
 }

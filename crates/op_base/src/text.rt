@@ -3,6 +3,7 @@ ghost use Rattle.std.specs.Prelude.{◌≡◌, [], ◌++◌, length, IsTrue, ◌
 use crate::memory::NoMemory;
 use std::alloc::{AllocError, Global};
 use std::cmp::Ordering;
+use std::hash::{Hash, Hasher};
 use std::marker::Model;
 
 /// An owned text. Contracts see it as the list of its bytes, which are UTF-8; texts are ordered by
@@ -157,5 +158,19 @@ impl Ord for Text {
 
     fn cmp(&self, other: &Text) -> Ordering {
         self.inner.as_str().cmp(other.inner.as_str())
+    }
+}
+
+impl Hash for Text {
+    ghost use Rattle.std.specs.Hash as fed;
+    ghost use Rattle.std.specs.Cmp.Rules.{hashing};
+    ghost use Rattle.std.proofs.Common.{rules};
+
+    ghost hash_input = { λ text. fed.str text };
+
+    ghost respects_eq = { Prim.search (hashing, rules) };
+
+    fn hash<H: Hasher>(&self, state: &mut H) {
+        self.inner.hash(state);
     }
 }
