@@ -1,11 +1,11 @@
 -- The entries that the scrapes of one tick give, staleness markers included.
-use Rattle.std.specs.Prelude.{ℤ, List, [], ◌++◌, not, Option, None, filter, fold, map}
+use Rattle.std.specs.Prelude.{ℤ, List, [], ◌++◌, Option, fold}
 use Rattle.std.specs.List.{flat_map}
 use Rattle.op_base.specs.declared.moment.Moment.{Moment}
 use Rattle.op_base.specs.Labels.{Texts}
 use Rattle.cfg_types.specs.declared.job.Job.{Job}
 use Rattle.srv_store.specs.declared.entry.Entry.{Entry}
-use Rattle.srv_store.specs.LabelMaps.{LabelMap, has_labels, with_value, labels_in}
+use Rattle.srv_store.specs.LabelMaps.{LabelMap, with_value, labels_in, stale_entries}
 use Rattle.srv_scrape.specs.declared.target.Target.{Target}
 use Rattle.srv_scrape.specs.Pages.{Pages, page_at}
 use Rattle.srv_scrape.specs.Scraped.{Manner, scraped}
@@ -35,14 +35,9 @@ by_labels entries = fold (λ placed entry. with_value placed entry.labels entry.
 abbrev pub label_sets : List Entry → List Texts
 label_sets entries = labels_in (by_labels entries)
 
--- a stale entry for each label set that isn't among those given
-abbrev pub stale_beside : Moment → LabelMap (Option ℤ) → List Texts → List Entry
-stale_beside t given before =
-    map (λ labels. record { labels = labels; at = t; value = None }) (filter (λ labels. not (has_labels given labels)) before)
-
--- a stale entry for each label set of the tick before that isn't given now
+-- a staleness marker for each label set of the tick before that isn't given now
 abbrev pub markers : Moment → List Texts → List Entry → List Entry
-markers t before entries = stale_beside t (by_labels entries) before
+markers t before entries = stale_entries t before (by_labels entries)
 
 -- the entries of a tick's scrapes, and then the staleness markers
 abbrev pub tick_entries : Moment → List Texts → List Entry → List Entry

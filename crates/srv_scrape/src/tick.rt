@@ -1,9 +1,9 @@
-ghost use Rattle.std.specs.Prelude.{◌≡◌, ◌++◌, ◌∷◌, [], IfOk, OnOk};
+ghost use Rattle.std.specs.Prelude.{◌≡◌, IfOk};
 ghost use Rattle.srv_store.specs.LabelMaps.{labels_in};
 ghost use Rattle.srv_scrape.specs.Ticks as spec;
 
 use op_base::{Labels, List, Moment, NoMemory};
-use srv_store::{Entry, LabelMap};
+use srv_store::{Entry, LabelMap, push_stale};
 use std::alloc::Global;
 
 /// The entries of all scrapes of a tick with the staleness markers behind them: one for each of the
@@ -20,7 +20,7 @@ pub fn tick_entries(
 {
     let given = by_labels(alloc, entries.as_slice())?;
     let mut entries = entries;
-    push_markers(&mut entries, t, &given, before.as_slice())?;
+    push_stale(&mut entries, t, before.as_slice(), &given)?;
     let given = label_sets(alloc, given)?;
     Ok((entries, given))
 }
@@ -33,39 +33,6 @@ fn by_labels(alloc: Global, entries: &[Entry]) -> Result<LabelMap<Option<i64>>, 
         placed.insert(entry.labels.copy()?, entry.value)?;
     }
     Ok(placed)
-}
-
-fn push_markers(
-    entries: &mut List<Entry>,
-    t: Moment,
-    given: &LabelMap<Option<i64>>,
-    before: &[Labels],
-) -> Result<(), NoMemory>
-    ensures { OnOk result (entries.new ≡ entries.old ++ spec.stale_beside t given.now before.now) }
-{
-    for labels in before {
-        push_marker(entries, t, given, labels)?;
-    }
-    Ok(())
-}
-
-fn push_marker(
-    entries: &mut List<Entry>,
-    t: Moment,
-    given: &LabelMap<Option<i64>>,
-    labels: &Labels,
-) -> Result<(), NoMemory>
-    ensures { OnOk result (entries.new
-        ≡ entries.old ++ spec.stale_beside t given.now (labels.now ∷ [])) }
-{
-    if given.get(labels).is_some() {
-        return Ok(());
-    }
-    entries.push(Entry {
-        labels: labels.copy()?,
-        at: t,
-        value: None,
-    })
 }
 
 fn label_sets(alloc: Global, given: LabelMap<Option<i64>>) -> Result<List<Labels>, NoMemory>

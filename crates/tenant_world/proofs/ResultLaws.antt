@@ -18,7 +18,6 @@ use Rattle.ql_eval.specs.Values.{value_of}
 use Rattle.ql_eval.proofs.EnforcedLaws.{value-of-enforced-home}
 use Rattle.srv_rule.specs.Recorded.{recorded_labels, gathered, results_of}
 use Rattle.srv_rule.specs.Rounds.{around}
-use Rattle.op_base.specs.declared.label_names.TheConstants.{NAMESPACE_LABEL}
 use Rattle.op_thin.specs.declared.recording.Recording.{Recording}
 use Rattle.op_thin.specs.Compiled.{enforced_expr}
 use Rattle.tenant_world.specs.Tenants.{home_label, written_rule}

@@ -12,6 +12,7 @@ use Rattle.srv_rule.specs.declared.states.RuleId.{RuleId}
 use Rattle.ql_eval.specs.Values.{value_of}
 use Rattle.srv_rule.specs.Recorded.{results_of}
 use Rattle.srv_rule.specs.Rounds.{States, Ran, around, Placed, id_cmp, id_of, last_of, placed_in, placed_of, value_entries, after_results, after_rule, after_rules, gone, gone_entries, without_gone, round_of}
+use Rattle.op_base.specs.declared.label_names.TheConstants.{NAMESPACE_LABEL}
 use Rattle.op_thin.specs.declared.recording.Recording.{Recording}
 use Rattle.op_thin.specs.Compiled.{enforced_expr, file_of}
 use Rattle.tenant_world.specs.Tenants.{home_label, written_rule, written_file}
