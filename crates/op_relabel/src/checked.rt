@@ -66,12 +66,7 @@ impl CheckedSteps {
     }
 
     /// Adds the step that gives the value of the label `source` to the label `target`.
-    pub fn copy_label(
-        &mut self,
-        alloc: Global,
-        source: &str,
-        target: &str,
-    ) -> Result<(), NoMemory>
+    pub fn copy_label(&mut self, alloc: Global, source: &str, target: &str) -> Result<(), NoMemory>
         ensures ok { OnOk result (self.new ≡ self.old ++ spec.copy_step source.now target.now ∷ []) }
         ensures err { OnErr result (self.new ≡ self.old) }
     {
