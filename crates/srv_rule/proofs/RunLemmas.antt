@@ -1,5 +1,5 @@
 -- Rules run one after the other: the store grows by each, and what is left decides.
-use Rattle.std.proofs.Common.{◌≡◌, ℕ, ◌+◌, ◌<◌, List, [], ◌∷◌, ◌++◌, length, drop, get_or, Option, Some, None, Result, Ok, Err, OnErr, refl, ap, sym, subst, ◌∙◌}
+use Rattle.std.proofs.Common.{◌≡◌, ℕ, ◌+◌, ◌<◌, List, [], ◌∷◌, ◌++◌, length, drop, get_or, Option, Some, None, Result, Ok, Err, OnErr, refl, ap, sym, subst, ◌∙◌, append_assoc}
 use Rattle.std.specs.List.{flat_map}
 use Rattle.std.proofs.lemmas.List.{drop_more}
 use Rattle.op_base.specs.declared.moment.Moment.{Moment}
@@ -8,7 +8,7 @@ use Rattle.cfg_types.specs.declared.config.RuleFile.{RuleFile}
 use Rattle.cfg_types.specs.declared.config.Group.{Group}
 use Rattle.cfg_types.specs.declared.config.Rule.{Rule}
 use Rattle.srv_store.specs.declared.entry.Entry.{Entry}
-use Rattle.srv_store.specs.Stores.{Store, Vector, Grows, AddsPrefix, with_all}
+use Rattle.srv_store.specs.Stores.{Store, Vector, Grows, AddsPrefix, fresh, with_all}
 use Rattle.srv_store.proofs.GrowthLemmas.{grows-itself, grows-further, grows-with_all}
 use Rattle.ql_eval.specs.Values.{value_of}
 use Rattle.srv_rule.specs.Recorded.{results_of}
@@ -75,6 +75,17 @@ module _ (t : Moment) (before : States) where
   pub runs-end : (start ran : Ran) (all left : List Placed) → Runs t before start ran all left → left ≡ [] → ran ≡ after_all t before start all
   runs-end start ran all left runs none = sym (runs.same ∙ ap (after_all t before ran) none)
 
+-- all of some entries is a first part of them
+pub all_stored : (store new : Store) (entries : List Entry) → new ≡ with_all store entries → AddsPrefix store new (with_all store entries)
+all_stored store new entries is = subst (λ s. AddsPrefix store s (with_all store entries)) (sym is) (grows-with_all store entries, grows-itself (with_all store entries))
+
+-- what is added stands behind what was added before
+pub behind_more : (base store new : Store) (before more after entries : List Entry) → store ≡ base ++ before → new ≡ with_all store entries → more ≡ fresh store entries → after ≡ before ++ more
+    → new ≡ base ++ after
+behind_more base store new before more after entries behind is added grown =
+    is ∙ ap (λ l. l ++ fresh store entries) behind ∙ append_assoc base before (fresh store entries)
+    ∙ ap (λ l. base ++ (before ++ l)) (sym added) ∙ ap (λ l. base ++ l) (sym grown)
+
 pub on_err_anyway : {V E P : Type 0} (r : Result V E) → P → OnErr r P
 on_err_anyway (Ok v) p = tt
 on_err_anyway (Err e) p = p
@@ -133,6 +144,11 @@ module _ (files : List RuleFile) (t : Moment) (before states : States) (store : 
         (ap (with_all ran.store) added ∙ ap (λ (r : Ran). with_all r.store (gone_entries t (gone before r.states))) is ∙ sym ended)
         cut.1,
   )
+
+  -- all of it was stored
+  pub all_of_round : (ran : Ran) (new : Store) (entries : List Entry) → ran ≡ all_ran → entries ≡ gone_entries t (gone before ran.states) → new ≡ with_all ran.store entries
+      → AddsPrefix store new (stored the_round)
+  all_of_round ran new entries is added whole = cut_at_end ran new entries is added (all_stored ran.store new entries whole)
 
 -- a round's store has that of before in front
 pub round_grows : (files : List RuleFile) (t : Moment) (before : States) (store : Store) → Grows store (stored (round_of files [] [] t before store))

@@ -1,5 +1,5 @@
 -- A round under way, as the code holds it. No labels are ambient in it, and nothing is forced.
-use Rattle.std.specs.Prelude.{List, [], unwrap_or}
+use Rattle.std.specs.Prelude.{◌≡◌, List, [], ◌++◌, unwrap_or}
 use Rattle.op_base.specs.declared.moment.Moment.{Moment}
 use Rattle.srv_store.specs.Stores.{Store, Vector}
 use Rattle.srv_rule.specs.declared.rounds.Place.{Place}
@@ -13,6 +13,10 @@ placed_as place = placed_at place.file.now place.group.now.name place.index plac
 -- what was done so far
 abbrev pub ran : Store → Progress → Ran
 ran store progress = ran_of store progress.states progress.failed
+
+-- what was added since a store was left stands behind it
+abbrev pub IsBehind : Store → Store → Progress → Type 0
+IsBehind base store progress = store ≡ base ++ progress.added
 
 -- the rules run one after the other
 abbrev pub after : Moment → States → Ran → List Placed → Ran

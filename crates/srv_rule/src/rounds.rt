@@ -1,7 +1,7 @@
-ghost use Rattle.std.specs.Prelude.{◌≡◌, [], ◌∷◌, map, unwrap_or, IfOk, OnOk, OnErr};
+ghost use Rattle.std.specs.Prelude.{◌≡◌, [], ◌∷◌, ◌++◌, map, unwrap_or, IfOk, OnOk, OnErr};
 ghost use Rattle.srv_store.specs.LabelMaps.{labels_in, stale_entries};
 ghost use Rattle.srv_store.specs.Stores.{AddsPrefix};
-ghost use Rattle.srv_rule.specs.Running.{placed_as, ran, after, succeeded};
+ghost use Rattle.srv_rule.specs.Running.{placed_as, ran, after, succeeded, IsBehind};
 ghost use Rattle.srv_rule.specs.Rounds as spec;
 
 use crate::results::results_of;
@@ -17,6 +17,7 @@ use std::alloc::Global;
 struct Progress {
     states: RuleStates,
     failed: List<FailedRule>,
+    added: List<Entry>,
 }
 
 // A rule of a file, with its group and its place there.
@@ -44,7 +45,7 @@ pub fn round(
     ensures states { OnErr result (states.new ≡ states.old) }
 {
     match next_round(alloc, files, store, states, t) {
-        Ok((next, view)) => {
+        Ok((next, view, _added)) => {
             *states = next;
             Ok(view)
         }
@@ -52,30 +53,35 @@ pub fn round(
     }
 }
 
-/// A round that leaves the states of before, and answers those that stand after it.
+/// A round that leaves the states of before, and answers those that stand after it, and the entries that
+/// it stored.
 pub fn next_round(
     alloc: Global,
     files: &List<RuleFile>,
     store: &mut Store,
     states: &RuleStates,
     t: Moment,
-) -> Result<(RuleStates, RoundView), NoMemory>
+) -> Result<(RuleStates, RoundView, List<Entry>), NoMemory>
     ensures ok { IfOk result (λ given. spec.ran_of store.new given.0 given.1.failed
         ≡ spec.round_of files.now [] [] t states.now store.old) }
+    ensures added { IfOk result (λ given. store.new ≡ store.old ++ given.2) }
     ensures err { OnErr result (AddsPrefix store.old store.new
         (spec.stored (spec.round_of files.now [] [] t states.now store.old))) }
 {
     let mut progress = Progress {
         states: RuleStates::new(alloc),
         failed: List::new(alloc),
+        added: List::new(alloc),
     };
     run_files(alloc, store, &mut progress, states, files, t)?;
-    store.add_all(states.gone_entries(alloc, &progress.states, t)?)?;
+    let gone = store.add_all(states.gone_entries(alloc, &progress.states, t)?)?;
+    progress.added.append(gone)?;
     let Progress {
         states: next,
         failed,
+        added,
     } = progress;
-    Ok((next, RoundView { failed }))
+    Ok((next, RoundView { failed }, added))
 }
 
 fn run_files(
@@ -88,6 +94,7 @@ fn run_files(
 ) -> Result<(), NoMemory>
     ensures ok { OnOk result (ran store.new progress.new
         ≡ after t before.now (ran store.old progress.old) (spec.placed_of files.now)) }
+    ensures added { (base : _) → IsBehind base store.old progress.old → OnOk result (IsBehind base store.new progress.new) }
     ensures err { OnErr result (AddsPrefix store.old store.new
         (spec.stored (after t before.now (ran store.old progress.old) (spec.placed_of files.now)))) }
 {
@@ -107,6 +114,7 @@ fn run_file(
 ) -> Result<(), NoMemory>
     ensures ok { OnOk result (ran store.new progress.new
         ≡ after t before.now (ran store.old progress.old) (spec.placed_in file.now)) }
+    ensures added { (base : _) → IsBehind base store.old progress.old → OnOk result (IsBehind base store.new progress.new) }
     ensures err { OnErr result (AddsPrefix store.old store.new
         (spec.stored (after t before.now (ran store.old progress.old) (spec.placed_in file.now)))) }
 {
@@ -128,6 +136,7 @@ fn run_group(
     ensures ok { OnOk result (ran store.new progress.new
         ≡ after t before.now (ran store.old progress.old)
         (spec.placed_from file.now group.now.name 0 group.now.rules)) }
+    ensures added { (base : _) → IsBehind base store.old progress.old → OnOk result (IsBehind base store.new progress.new) }
     ensures err { OnErr result (AddsPrefix store.old store.new
         (spec.stored (after t before.now (ran store.old progress.old)
         (spec.placed_from file.now group.now.name 0 group.now.rules)))) }
@@ -156,6 +165,7 @@ fn run_rule(
 ) -> Result<(), NoMemory>
     ensures ok { OnOk result (ran store.new progress.new
         ≡ after t before.now (ran store.old progress.old) (placed_as place.entry.now ∷ [])) }
+    ensures added { (base : _) → IsBehind base store.old progress.old → OnOk result (IsBehind base store.new progress.new) }
     ensures err { OnErr result (AddsPrefix store.old store.new
         (spec.stored (after t before.now (ran store.old progress.old) (placed_as place.entry.now ∷ [])))) }
 {
@@ -172,7 +182,8 @@ fn fail(
     before: &RuleStates,
     place: &Place<'_>,
 ) -> Result<(), NoMemory>
-    ensures { (store : _) → OnOk result (ran store progress.new
+    ensures added { OnOk result (progress.new.added ≡ progress.old.added) }
+    ensures failed { (store : _) → OnOk result (ran store progress.new
         ≡ spec.after_failure (ran store progress.old) (placed_as place.entry.now)
         (spec.last_of before.now (spec.id_of (placed_as place.entry.now)))) }
 {
@@ -214,6 +225,7 @@ fn succeed(
 ) -> Result<(), NoMemory>
     ensures ok { OnOk result (ran store.new progress.new
         ≡ succeeded t before.now (ran store.old progress.old) (placed_as place.entry.now) results) }
+    ensures added { (base : _) → IsBehind base store.old progress.old → OnOk result (IsBehind base store.new progress.new) }
     ensures err { OnErr result (AddsPrefix store.old store.new
         (spec.stored (succeeded t before.now (ran store.old progress.old) (placed_as place.entry.now) results))) }
 {
@@ -223,7 +235,8 @@ fn succeed(
     let mut entries = values_of(alloc, elements.as_slice(), t)?;
     entries.append(stale)?;
     progress.states.insert(id, labels_of(alloc, elements)?)?;
-    store.add_all(entries)
+    let added = store.add_all(entries)?;
+    progress.added.append(added)
 }
 
 // Stale entries for what the rule gave at its last success and doesn't give now.

@@ -1,5 +1,5 @@
 -- A tick that was cut off stored a first part of its entries.
-use Rattle.std.proofs.Common.{◌≡◌, [], sym, subst}
+use Rattle.std.proofs.Common.{◌≡◌, [], ap, sym, subst, ◌∙◌}
 use Rattle.op_base.specs.declared.moment.Moment.{Moment}
 use Rattle.cfg_types.specs.declared.config.Config.{Config}
 use Rattle.srv_store.specs.Stores.{Store, Grows, AddsPrefix, with_all}
@@ -40,3 +40,7 @@ module _ (config : Config) (pages : Pages) (memory : Memory) (t : Moment) where
   -- all of it was stored
   pub all_of_tick : (new : Store) → new ≡ all_store → AddsPrefix memory.store new all_store
   all_of_tick new is = subst (λ s. AddsPrefix memory.store s all_store) (sym is) (none_of_tick.1, grows-itself all_store)
+
+  -- the round was over
+  pub all_in_round : (between new : Store) → between ≡ scraped_store → new ≡ stored (round_of config.rules [] [] t memory.states between) → AddsPrefix memory.store new all_store
+  all_in_round between new is whole = all_of_tick new (whole ∙ ap (λ s. stored (round_of config.rules [] [] t memory.states s)) is)

@@ -8,7 +8,7 @@ use crate::event::{Event, EventFault};
 use crate::reports::tick_reports;
 use crate::tick::run_tick;
 use cfg_types::{Config, PromPart};
-use op_base::{Labels, List, Moment, NoMemory, Span, Table, Tags, Text, behind};
+use op_base::{Labels, List, Moment, NoMemory, Span, Table, Tags, Text};
 use op_report::{Report, View};
 use srv_rule::RuleStates;
 use srv_scrape::{Pages, Sample};
@@ -154,7 +154,7 @@ impl Server {
         }
     }
 
-    // A tick that isn't late. The lines are made of the entries that stand behind those of before.
+    // A tick that isn't late. The lines are made of the entries that were stored.
     fn run(&mut self, t: Moment) -> Result<List<Report>, NoMemory>
         requires { IsTick t }
         ensures reports { IfOk result (λ reports. reports
@@ -165,8 +165,7 @@ impl Server {
         ensures cut_off { OnErr result (spec.IsCutOff self.old self.new
             (spec.served_after self.old.config self.old.served (Event.Tick t))) }
     {
-        let before = self.store.len();
-        let (scraped, states, failed) = run_tick(
+        let (scraped, states, failed, added) = run_tick(
             self.alloc,
             &self.config,
             &self.pages,
@@ -175,8 +174,13 @@ impl Server {
             &self.states,
             t,
         )?;
-        let added = behind(self.store.entries(), before);
-        let reports = tick_reports(self.alloc, &self.known, failed.as_slice(), added, t)?;
+        let reports = tick_reports(
+            self.alloc,
+            &self.known,
+            failed.as_slice(),
+            added.as_slice(),
+            t,
+        )?;
         self.scraped = scraped;
         self.states = states;
         self.last = Some(t);

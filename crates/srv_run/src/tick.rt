@@ -1,4 +1,4 @@
-ghost use Rattle.std.specs.Prelude.{◌≡◌, IfOk, OnOk, OnErr};
+ghost use Rattle.std.specs.Prelude.{◌≡◌, ◌++◌, IfOk, OnOk, OnErr};
 ghost use Rattle.srv_store.specs.Stores.{AddsPrefix, with_all};
 ghost use Rattle.srv_scrape.specs.Ticks as scrapes;
 ghost use Rattle.srv_run.specs.Ticking.{left, ticked_as, tick_over};
@@ -11,7 +11,7 @@ use srv_store::Store;
 use std::alloc::Global;
 
 /// Scrapes everything at the moment and then runs all rules. Answers the label sets that the scrapes
-/// gave, the states of rules that stand after it, and the rules that failed.
+/// gave, the states of rules that stand after it, the rules that failed, and the entries that were stored.
 pub fn run_tick(
     alloc: Global,
     config: &Config,
@@ -20,18 +20,22 @@ pub fn run_tick(
     store: &mut Store,
     states: &RuleStates,
     t: Moment,
-) -> Result<(List<Labels>, RuleStates, List<FailedRule>), NoMemory>
+) -> Result<(List<Labels>, RuleStates, List<FailedRule>, List<Entry>), NoMemory>
     ensures ok { IfOk result (λ given. ticked_as store.old (left store.new given.0 given.1) given.2
         ≡ tick_over config.now pages.now (left store.old scraped.now states.now) t) }
+    ensures added { IfOk result (λ given. store.new ≡ store.old ++ given.3) }
     ensures err { OnErr result (AddsPrefix store.old store.new
         (tick_over config.now pages.now (left store.old scraped.now states.now) t).memory.store) }
 {
-    let given = store_scrapes(alloc, &config.prometheus.jobs, pages, scraped, store, t)?;
-    let (next, view) = next_round(alloc, &config.rules, store, states, t)?;
-    Ok((given, next, view.failed))
+    let (given, mut added) =
+        store_scrapes(alloc, &config.prometheus.jobs, pages, scraped, store, t)?;
+    let (next, view, more) = next_round(alloc, &config.rules, store, states, t)?;
+    added.append(more)?;
+    Ok((given, next, view.failed, added))
 }
 
-// Stores the entries of all scrapes with the staleness markers. Answers the label sets that are given now.
+// Stores the entries of all scrapes with the staleness markers. Answers the label sets that are given now,
+// and the entries that were stored.
 fn store_scrapes(
     alloc: Global,
     jobs: &List<Job>,
@@ -39,16 +43,17 @@ fn store_scrapes(
     before: &List<Labels>,
     store: &mut Store,
     t: Moment,
-) -> Result<List<Labels>, NoMemory>
-    ensures given { IfOk result (λ given. given
+) -> Result<(List<Labels>, List<Entry>), NoMemory>
+    ensures given { IfOk result (λ given. given.0
         ≡ scrapes.label_sets (scrapes.scraped_entries pages.now t jobs.now)) }
     ensures ok { OnOk result (store.new ≡ with_all store.old
         (scrapes.tick_entries t before.now (scrapes.scraped_entries pages.now t jobs.now))) }
+    ensures added { IfOk result (λ given. store.new ≡ store.old ++ given.1) }
     ensures err { OnErr result (AddsPrefix store.old store.new (with_all store.old
         (scrapes.tick_entries t before.now (scrapes.scraped_entries pages.now t jobs.now)))) }
 {
     let scraped = scrape_all(alloc, jobs, pages, t)?;
     let (entries, given) = tick_entries(alloc, t, before, scraped)?;
-    store.add_all(entries)?;
-    Ok(given)
+    let added = store.add_all(entries)?;
+    Ok((given, added))
 }

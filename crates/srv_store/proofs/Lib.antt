@@ -1,2 +1,11 @@
 pub mod GrowthLemmas
 pub mod OrderLemmas
+mod PlaceLemmas
+mod KeptLemmas
+mod FlatLemmas
+mod NewestLemmas
+mod WindowLemmas
+mod MatchLemmas
+mod LatestLemmas
+mod SelectedLemmas
+mod RangedLemmas

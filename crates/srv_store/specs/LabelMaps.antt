@@ -10,9 +10,13 @@ use Rattle.srv_store.specs.declared.entry.Entry.{Entry}
 abbrev pub LabelMap : Type 0 → Type 0
 LabelMap X = List (Texts × X)
 
+-- the value at a label set
+abbrev pub value_of : {X : Type 0} → LabelMap X → Texts → Option X
+value_of entries labels = finite.find labels_cmp labels entries
+
 -- whether the label set is there
 abbrev pub has_labels : {X : Type 0} → LabelMap X → Texts → Bool
-has_labels entries labels = is_some (finite.find labels_cmp labels entries)
+has_labels entries labels = is_some (value_of entries labels)
 
 -- the map with the value at the label set, over any that stood there
 abbrev pub with_value : {X : Type 0} → LabelMap X → Texts → X → LabelMap X

@@ -1,2 +1,4 @@
 pub mod LabelMaps
 pub mod Stores
+pub mod Runs
+pub mod Indexes

@@ -12,7 +12,7 @@ use Rattle.op_base.specs.declared.label_names.TheConstants.{NAMESPACE_LABEL}
 use Rattle.op_base.specs.Maps.{in_order, with_member}
 use Rattle.op_base.specs.Matchers.{holds_on, label_value}
 use Rattle.srv_store.specs.declared.entry.Entry.{Entry}
-use Rattle.srv_store.specs.LabelMaps.{LabelMap, with_value}
+use Rattle.srv_store.specs.LabelMaps.{LabelMap, value_of, with_value}
 
 -- the entries in the order in which they came
 abbrev pub Store : Type 0
@@ -77,7 +77,7 @@ is_newer (Some found) entry = int_lt found.at.0 entry.at.0
 -- what was found, with the entry where it is a newer one of its labels
 abbrev pub with_newer : LabelMap Entry → Entry → LabelMap Entry
 with_newer found entry =
-    if is_newer (finite.find labels_cmp entry.labels found) entry then with_value found entry.labels entry else found
+    if is_newer (value_of found entry.labels) entry then with_value found entry.labels entry else found
 
 -- of each label set its entry of the greatest moment
 abbrev pub latest : List Entry → LabelMap Entry

@@ -4,8 +4,12 @@
 //! from label sets in label order.
 #![tactic(auto)]
 
+mod addition;
 mod entry;
+mod lookups;
 mod map;
+mod places;
+mod run;
 mod stale;
 mod store;
 

@@ -1,28 +1,34 @@
-ghost use Rattle.std.specs.Prelude.{◌≡◌, [], ◌∷◌, ◌++◌, ◌&&◌, not, length, fold, map, IfOk, OnOk, OnErr};
-ghost use Rattle.std.specs.List.{flat_map};
-ghost use Rattle.std.specs.Option.{option_copied};
+ghost use Rattle.std.specs.Prelude.{◌≡◌, [], ◌∷◌, ◌++◌, not, length, IfOk, OnOk, OnErr};
 ghost use Rattle.srv_store.specs.Stores as spec;
 
+use crate::addition::{Addition, add_at, numbered};
 use crate::entry::Entry;
-use crate::map::LabelMap;
-use op_base::{Labels, List, Matcher, Moment, NoMemory, PreparedMatcher, in_order};
+use crate::lookups::{found_runs, newest_entries, ranged_series, selected_entries};
+use crate::run::Run;
+use indexmap::IndexSet;
+use op_base::{Labels, List, Matcher, Moment, NoMemory};
 use std::alloc::Global;
 use std::marker::Model;
 
-/// The samples that were stored, in the order in which they came. Contracts see the list. It keeps its
-/// allocator.
+/// The samples that were stored. Contracts see the list of their entries in the order in which they
+/// came. It keeps a run of readings for each label set, and its allocator.
 #[derive(Debug, Drop)]
 pub struct Store {
     alloc: Global,
-    entries: List<Entry>,
+    keys: IndexSet<Labels>,
+    runs: Vec<Run>,
+    log: Vec<Addition>,
 }
 
 impl Model for Store {
     ghost use Rattle.srv_store.specs.Stores.{Store as Seen};
+    ghost use Rattle.srv_store.specs.Runs.{IsKept, entries_of};
 
     ghost Value = { Seen };
 
-    ghost view = { λ store. store.entries };
+    ghost view = { λ store. entries_of store.keys.keys store.log.items };
+
+    ghost invariant = { λ store. IsKept store.keys.keys store.runs.items store.log.items };
 }
 
 impl Store {
@@ -32,21 +38,16 @@ impl Store {
     {
         Store {
             alloc,
-            entries: List::new(alloc),
+            keys: IndexSet::new(alloc),
+            runs: Vec::new(alloc),
+            log: Vec::new(alloc),
         }
     }
 
     pub fn len(&self) -> usize
         ensures { result ≡ length self.now }
     {
-        self.entries.len()
-    }
-
-    /// The entries in the order in which they came.
-    pub fn entries(&self) -> &[Entry]
-        ensures { result.now ≡ self.now }
-    {
-        self.entries.as_slice()
+        self.log.len()
     }
 
     /// Stores the entry, where none of the same labels and moment is there. The answer says whether
@@ -56,21 +57,48 @@ impl Store {
         ensures ok { OnOk result (self.new ≡ spec.with_one self.old entry) }
         ensures err { OnErr result (self.new ≡ self.old) }
     {
-        if has_twin(self.entries.as_slice(), &entry) {
-            return Ok(false);
-        }
-        self.entries.push(entry)?;
-        Ok(true)
+        self.take(&entry)
+    }
+
+    fn take(&mut self, entry: &Entry) -> Result<bool, NoMemory>
+        ensures added { IfOk result (λ added. added ≡ not (spec.has_twin self.old entry.now)) }
+        ensures ok { OnOk result (self.new ≡ spec.with_one self.old entry.now) }
+        ensures err { OnErr result (self.new ≡ self.old) }
+    {
+        let number = numbered(self.alloc, &mut self.keys, &mut self.runs, &entry.labels)?;
+        let addition = Addition {
+            number,
+            at: entry.at,
+            value: entry.value,
+        };
+        add_at(&mut self.runs, &mut self.log, addition)
     }
 
     /// Stores the entries one after the other, leaving out those of which one of the same labels and
-    /// moment is there by then. An error leaves some of the first ones stored.
-    pub fn add_all(&mut self, entries: List<Entry>) -> Result<(), NoMemory>
+    /// moment is there by then. Answers those that were stored. An error leaves some of the first ones
+    /// stored.
+    pub fn add_all(&mut self, entries: List<Entry>) -> Result<List<Entry>, NoMemory>
+        ensures added { IfOk result (λ added. added ≡ spec.fresh self.old entries) }
         ensures ok { OnOk result (self.new ≡ spec.with_all self.old entries) }
         ensures err { OnErr result (spec.AddsPrefix self.old self.new (spec.with_all self.old entries)) }
     {
+        let mut added = Vec::new(self.alloc);
         for entry in entries.into_vec() {
-            self.add(entry)?;
+            self.add_to(&mut added, entry)?;
+        }
+        Ok(List::from_vec(added))
+    }
+
+    // Stores the entry, and puts it behind those that were stored before.
+    fn add_to(&mut self, added: &mut Vec<Entry>, entry: Entry) -> Result<(), NoMemory>
+        ensures added { OnOk result (added.new.items
+            ≡ added.old.items ++ spec.fresh self.old (entry ∷ [])) }
+        ensures ok { OnOk result (self.new ≡ spec.with_one self.old entry) }
+        ensures err { OnErr result (self.new ≡ self.old) }
+    {
+        added.reserve(1)?;
+        if self.take(&entry)? {
+            added.push(entry).unwrap();
         }
         Ok(())
     }
@@ -88,6 +116,18 @@ impl Store {
         self.selected(matchers, &i128::from(from.0), &i128::from(to.0))
     }
 
+    fn selected(
+        &self,
+        matchers: &List<Matcher>,
+        from: &i128,
+        to: &i128,
+    ) -> Result<List<Entry>, NoMemory>
+        ensures { IfOk result (λ entries. entries ≡ spec.selected self.now matchers.now from.now to.now) }
+    {
+        let found = found_runs(self.alloc, &self.keys, matchers)?;
+        selected_entries(self.alloc, self.runs.as_slice(), found, from, to)
+    }
+
     /// Of each label set on which all matchers hold the newest entry from one moment to another, in
     /// label order. A label set whose newest entry is stale has none.
     pub fn newest(
@@ -98,15 +138,8 @@ impl Store {
     ) -> Result<List<Entry>, NoMemory>
         ensures { IfOk result (λ entries. entries ≡ spec.newest self.now matchers.now from.now to.now) }
     {
-        let matchers = prepared(self.alloc, matchers.as_slice())?;
-        let found = latest(
-            self.alloc,
-            self.entries.as_slice(),
-            matchers.as_slice(),
-            from,
-            to,
-        )?;
-        found_entries(self.alloc, found)
+        let found = found_runs(self.alloc, &self.keys, matchers)?;
+        newest_entries(self.alloc, self.runs.as_slice(), found, from, to)
     }
 
     /// Of each label set on which all matchers hold the samples from one moment to another in the order
@@ -120,240 +153,7 @@ impl Store {
     ) -> Result<List<(Labels, List<(Moment, i64)>)>, NoMemory>
         ensures { IfOk result (λ series. series ≡ spec.ranged self.now matchers.now from.now to.now) }
     {
-        let entries = self.selected(matchers, from, to)?;
-        series_of(self.alloc, entries)?.into_entries(self.alloc)
-    }
-
-    fn selected(
-        &self,
-        matchers: &List<Matcher>,
-        from: &i128,
-        to: &i128,
-    ) -> Result<List<Entry>, NoMemory>
-        ensures { IfOk result (λ entries. entries ≡ spec.selected self.now matchers.now from.now to.now) }
-    {
-        let matchers = prepared(self.alloc, matchers.as_slice())?;
-        let found = window(
-            self.alloc,
-            self.entries.as_slice(),
-            matchers.as_slice(),
-            from,
-            to,
-        )?;
-        ordered(self.alloc, found)
-    }
-}
-
-// The newest entry of each label set in the window.
-fn latest(
-    alloc: Global,
-    entries: &[Entry],
-    matchers: &[PreparedMatcher],
-    from: &i128,
-    to: &i128,
-) -> Result<LabelMap<Entry>, NoMemory>
-    ensures { IfOk result (λ found. found ≡ spec.latest (spec.window entries.now matchers.now from.now to.now)) }
-{
-    let mut found = LabelMap::new(alloc);
-    for entry in entries {
-        put_newer(&mut found, entry, matchers, from, to)?;
-    }
-    Ok(found)
-}
-
-fn has_twin(entries: &[Entry], entry: &Entry) -> bool
-    ensures { result ≡ spec.has_twin entries.now entry.now }
-{
-    for known in entries {
-        if is_twin(entry, known) {
-            return true;
-        }
-    }
-    false
-}
-
-// The moments are compared first, since they differ most often.
-fn is_twin(this: &Entry, that: &Entry) -> bool
-    ensures { result ≡ spec.is_twin this.now that.now }
-{
-    this.at == that.at && this.labels == that.labels
-}
-
-// The entry stands for its labels, where it is in the window and none that is as new stands there.
-fn put_newer(
-    found: &mut LabelMap<Entry>,
-    entry: &Entry,
-    matchers: &[PreparedMatcher],
-    from: &i128,
-    to: &i128,
-) -> Result<(), NoMemory>
-    ensures { OnOk result (found.new ≡ fold spec.with_newer found.old (spec.window (entry.now ∷ []) matchers.now from.now to.now)) }
-{
-    if is_wanted(entry, matchers, from, to)? && is_newer(found.get(&entry.labels), entry) {
-        found.insert(entry.labels.copy()?, entry.copy()?)?;
-    }
-    Ok(())
-}
-
-// The entry is in the window.
-fn is_wanted(
-    entry: &Entry,
-    matchers: &[PreparedMatcher],
-    from: &i128,
-    to: &i128,
-) -> Result<bool, NoMemory>
-    ensures { IfOk result (λ wanted. wanted
-        ≡ (spec.is_within from.now to.now entry.now.at && spec.all_hold matchers.now entry.now.labels)) }
-{
-    Ok(is_within(entry.at, from, to) && all_hold(matchers, &entry.labels)?)
-}
-
-fn is_within(at: Moment, from: &i128, to: &i128) -> bool
-    ensures { result ≡ spec.is_within from.now to.now at }
-{
-    let at = i128::from(at.0);
-    *from <= at && at <= *to
-}
-
-fn all_hold(matchers: &[PreparedMatcher], labels: &Labels) -> Result<bool, NoMemory>
-    ensures { IfOk result (λ holds. holds ≡ spec.all_hold matchers.now labels.now) }
-{
-    for matcher in matchers {
-        if !matcher.holds(labels)? {
-            return Ok(false);
-        }
-    }
-    Ok(true)
-}
-
-// The matchers, each with its pattern.
-fn prepared<'a>(
-    alloc: Global,
-    matchers: &'a [Matcher],
-) -> Result<List<PreparedMatcher<'a>>, NoMemory>
-    ensures { IfOk result (λ prepared. prepared ≡ matchers.now) }
-{
-    let mut all = List::new(alloc);
-    for matcher in matchers {
-        all.push(PreparedMatcher::new(alloc, matcher)?)?;
-    }
-    Ok(all)
-}
-
-fn is_newer(found: Option<&Entry>, entry: &Entry) -> bool
-    ensures { result ≡ spec.is_newer (option_copied found.entry) entry.now }
-{
-    match found {
-        Some(found) => found.at < entry.at,
-        None => true,
-    }
-}
-
-fn found_entries(alloc: Global, found: LabelMap<Entry>) -> Result<List<Entry>, NoMemory>
-    ensures { IfOk result (λ entries. entries ≡ flat_map spec.found_entry found) }
-{
-    let mut entries = List::new(alloc);
-    for (_labels, entry) in found.into_entries(alloc)?.into_vec() {
-        push_found(&mut entries, entry)?;
-    }
-    Ok(entries)
-}
-
-fn push_found(entries: &mut List<Entry>, entry: Entry) -> Result<(), NoMemory>
-    ensures { OnOk result (entries.new ≡ entries.old ++ spec.unless_stale entry) }
-{
-    if entry.value.is_some() {
-        entries.push(entry)?;
-    }
-    Ok(())
-}
-
-// The entries in the window, in the store's order.
-fn window(
-    alloc: Global,
-    entries: &[Entry],
-    matchers: &[PreparedMatcher],
-    from: &i128,
-    to: &i128,
-) -> Result<List<Entry>, NoMemory>
-    ensures { IfOk result (λ found. found ≡ spec.window entries.now matchers.now from.now to.now) }
-{
-    let mut found = List::new(alloc);
-    for entry in entries {
-        push_within(&mut found, entry, matchers, from, to)?;
-    }
-    Ok(found)
-}
-
-fn push_within(
-    found: &mut List<Entry>,
-    entry: &Entry,
-    matchers: &[PreparedMatcher],
-    from: &i128,
-    to: &i128,
-) -> Result<(), NoMemory>
-    ensures { OnOk result (found.new ≡ found.old ++ spec.window (entry.now ∷ []) matchers.now from.now to.now) }
-{
-    if is_wanted(entry, matchers, from, to)? {
-        found.push(entry.copy()?)?;
-    }
-    Ok(())
-}
-
-fn ordered(alloc: Global, entries: List<Entry>) -> Result<List<Entry>, NoMemory>
-    ensures { IfOk result (λ sorted. sorted ≡ spec.ordered entries) }
-{
-    let sorted = in_order(alloc, at_places(alloc, entries)?)?;
-    entries_of(alloc, sorted)
-}
-
-fn at_places(
-    alloc: Global,
-    entries: List<Entry>,
-) -> Result<List<((Labels, Moment), Entry)>, NoMemory>
-    ensures { IfOk result (λ placed. placed ≡ map spec.at_place entries) }
-{
-    let mut placed = List::new(alloc);
-    for entry in entries.into_vec() {
-        placed.push(((entry.labels.copy()?, entry.at), entry))?;
-    }
-    Ok(placed)
-}
-
-fn entries_of(
-    alloc: Global,
-    placed: List<((Labels, Moment), Entry)>,
-) -> Result<List<Entry>, NoMemory>
-    ensures { IfOk result (λ entries. entries ≡ map spec.entry_at placed) }
-{
-    let mut entries = List::new(alloc);
-    for (_place, entry) in placed.into_vec() {
-        entries.push(entry)?;
-    }
-    Ok(entries)
-}
-
-// The samples of entries that stand by labels and moments.
-fn series_of(alloc: Global, entries: List<Entry>) -> Result<LabelMap<List<(Moment, i64)>>, NoMemory>
-    ensures { IfOk result (λ series. series ≡ fold spec.with_point [] entries) }
-{
-    let mut series = LabelMap::new(alloc);
-    for entry in entries.into_vec() {
-        add_point(alloc, &mut series, entry)?;
-    }
-    Ok(series)
-}
-
-fn add_point(
-    alloc: Global,
-    series: &mut LabelMap<List<(Moment, i64)>>,
-    entry: Entry,
-) -> Result<(), NoMemory>
-    ensures { OnOk result (series.new ≡ spec.with_point series.old entry) }
-{
-    let Entry { labels, at, value } = entry;
-    match value {
-        Some(value) => series.add(alloc, labels, (at, value)),
-        None => Ok(()),
+        let found = found_runs(self.alloc, &self.keys, matchers)?;
+        ranged_series(self.alloc, self.runs.as_slice(), found, from, to)
     }
 }

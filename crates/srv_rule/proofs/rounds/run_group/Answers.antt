@@ -16,4 +16,5 @@ loop-rule-preserved c = (
   runs-step c.args.t c.args.before.now _ _ _ _ _ (placed_at c.args.file.now c.args.group.now.name c.loop-rule.index c.rule-item.result ∷ []) _ c.loop-rule.invariant.1
       (rules-left c.args.file.now c.args.group.now.name c.args.group.now.rules _ c.loop-rule.index _ _ c.loop-rule.invariant.0 c.as_slice-rule-items.ensures c.loop-rule-test.true c.rule-item.is)
       c.in_ok-run_rule.ensures.ok,
+  λ base behind. c.in_ok-run_rule.ensures.added base (c.loop-rule.invariant.2 base behind),
 )
