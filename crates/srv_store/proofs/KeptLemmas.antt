@@ -261,6 +261,10 @@ numbered_known keys runs labels number distinct is =
     }
 
 -- ---- an entry is taken, or refused
+pub kept_same : (keys new_keys : List Texts) (runs new_runs : List Run) (log : List Addition) → IsKept keys runs log → new_keys ≡ keys → new_runs ≡ runs → IsKept new_keys new_runs log
+kept_same keys new_keys runs new_runs log k same_keys same_runs =
+    subst (λ (p : List Texts × List Run). IsKept p.0 p.1 log) (λ i. (sym same_keys i, sym same_runs i)) k
+
 pub taken_kept : {V E : Type 0} (r : Result V E) (keys : List Texts) (runs new_runs : List Run) (log new_log : List Addition) (x : Addition) → IsKept keys runs log → x.number < length keys
     → OnOk r (new_runs ≡ runs_with runs x) → OnOk r (new_log ≡ log_with runs log x) → OnErr r (new_runs ≡ runs) → OnErr r (new_log ≡ log) → IsKept keys new_runs new_log
 taken_kept (Ok v) keys runs new_runs log new_log x k within runs_are log_is same_runs same_log =

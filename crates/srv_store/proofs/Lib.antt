@@ -9,3 +9,4 @@ mod MatchLemmas
 mod LatestLemmas
 mod SelectedLemmas
 mod RangedLemmas
+mod IndexLemmas

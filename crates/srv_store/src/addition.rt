@@ -1,11 +1,14 @@
 ghost use Rattle.std.specs.Prelude.{◌≡◌, ◌<◌, false, not, length, IfOk, OnOk, OnErr};
 ghost use Rattle.std.specs.List.{list_any};
+ghost use Rattle.srv_store.specs.Indexes.{IsIndex};
 ghost use Rattle.srv_store.specs.Runs as spec;
 ghost use Rattle.srv_store.specs.Stores.{same_labels};
 
+use crate::index::list_labels;
+use crate::map::LabelMap;
 use crate::run::Run;
 use indexmap::IndexSet;
-use op_base::{Labels, Moment, NoMemory};
+use op_base::{Labels, List, Moment, NoMemory};
 use std::alloc::Global;
 
 /// What a store took: the number of the run that it went to, a moment, and a value, or none for a
@@ -17,22 +20,25 @@ pub(crate) struct Addition {
     pub value: Option<i64>,
 }
 
-/// The number of the label set. A new label set gets the next number, and a run without readings.
+/// The number of the label set. A new label set gets the next number, and a run without readings; the
+/// number is listed at its labels.
 pub(crate) fn numbered(
     alloc: Global,
     keys: &mut IndexSet<Labels>,
     runs: &mut Vec<Run>,
+    index: &mut LabelMap<List<usize>>,
     labels: &Labels,
 ) -> Result<usize, NoMemory>
     ensures ok { IfOk result (λ number. spec.IsNumbered
         keys.old.keys runs.old.items keys.new.keys runs.new.items labels.now number) }
+    ensures index { IsIndex keys.old.keys index.old → IsIndex keys.new.keys index.new }
     ensures keys { OnErr result (keys.new.keys ≡ keys.old.keys) }
     ensures runs { OnErr result (runs.new.items ≡ runs.old.items) }
 {
     let _distinct = keys.len();
     match keys.get_index_of(labels) {
         Some(number) => Ok(number),
-        None => new_number(alloc, keys, runs, labels.copy()?),
+        None => new_number(alloc, keys, runs, index, labels.copy()?),
     }
 }
 
@@ -40,15 +46,19 @@ fn new_number(
     alloc: Global,
     keys: &mut IndexSet<Labels>,
     runs: &mut Vec<Run>,
+    index: &mut LabelMap<List<usize>>,
     labels: Labels,
 ) -> Result<usize, NoMemory>
     requires { list_any (same_labels labels) keys.old.keys ≡ false }
     ensures ok { IfOk result (λ number. spec.IsNumbered
         keys.old.keys runs.old.items keys.new.keys runs.new.items labels number) }
+    ensures index { IsIndex keys.old.keys index.old → IsIndex keys.new.keys index.new }
     ensures keys { OnErr result (keys.new.keys ≡ keys.old.keys) }
     ensures runs { OnErr result (runs.new.items ≡ runs.old.items) }
 {
     runs.reserve(1)?;
+    let count = keys.len();
+    list_labels(alloc, index, &labels, count)?;
     let (number, _is_new) = keys.insert_full(labels)?;
     runs.push(Run::new(alloc)).unwrap();
     Ok(number)

@@ -6,6 +6,7 @@
 
 mod addition;
 mod entry;
+mod index;
 mod lookups;
 mod map;
 mod places;

@@ -1,35 +1,50 @@
 // What is looked up in the runs of a store.
 ghost use Rattle.std.specs.Prelude.{◌≡◌, [], ◌∷◌, ◌++◌, map, IfOk, OnOk};
 ghost use Rattle.std.specs.List.{flat_map};
+ghost use Rattle.srv_store.specs.Indexes.{IsIndex};
 ghost use Rattle.srv_store.specs.Runs as runs_spec;
 ghost use Rattle.srv_store.specs.Stores as spec;
 ghost use Rattle.srv_store.specs.Stores.{point_of};
 
 use crate::entry::Entry;
+use crate::index::shortest;
 use crate::map::LabelMap;
 use crate::run::Run;
 use indexmap::IndexSet;
 use op_base::{Labels, List, Matcher, Moment, NoMemory, PreparedMatcher};
 use std::alloc::Global;
 
-/// The numbers of the label sets on which all matchers hold, by the label sets.
+/// The numbers of the label sets on which all matchers hold, by the label sets. Where a matcher asks for
+/// a label, only those label sets are looked at that have it.
 pub(crate) fn found_runs(
     alloc: Global,
     keys: &IndexSet<Labels>,
+    index: &LabelMap<List<usize>>,
     matchers: &List<Matcher>,
 ) -> Result<LabelMap<usize>, NoMemory>
+    requires { IsIndex keys.now.keys index.now }
     ensures { IfOk result (runs_spec.AreFound keys.now.keys matchers.now) }
 {
     let prepared = prepared(alloc, matchers.as_slice())?;
-    let numbers = candidates(alloc, keys.len())?;
-    let labels = keys.as_slice();
-    let read = prepared.as_slice();
-    let places = numbers.as_slice();
-    matching(alloc, labels, read, places)
+    match shortest(alloc, index, matchers)? {
+        Some(numbers) => found_among(alloc, keys, &prepared, numbers),
+        None => found_in_all(alloc, keys, &prepared),
+    }
 }
 
-// The numbers of the runs to look at.
-fn candidates(alloc: Global, count: usize) -> Result<List<usize>, NoMemory>
+// The same, where no matcher asks for a label.
+fn found_in_all(
+    alloc: Global,
+    keys: &IndexSet<Labels>,
+    prepared: &List<PreparedMatcher>,
+) -> Result<LabelMap<usize>, NoMemory>
+    ensures { IfOk result (runs_spec.AreFound keys.now.keys prepared.now) }
+{
+    let numbers = all_numbers(alloc, keys.len())?;
+    found_among(alloc, keys, prepared, numbers.as_slice())
+}
+
+fn all_numbers(alloc: Global, count: usize) -> Result<List<usize>, NoMemory>
     ensures { IfOk result (runs_spec.IsEachBelow count) }
 {
     let mut numbers = List::new(alloc);
@@ -37,6 +52,21 @@ fn candidates(alloc: Global, count: usize) -> Result<List<usize>, NoMemory>
         numbers.push(number)?;
     }
     Ok(numbers)
+}
+
+// The same, where the numbers have all label sets on which the matchers hold.
+fn found_among(
+    alloc: Global,
+    keys: &IndexSet<Labels>,
+    prepared: &List<PreparedMatcher>,
+    numbers: &[usize],
+) -> Result<LabelMap<usize>, NoMemory>
+    requires { runs_spec.IsComplete keys.now.keys prepared.now numbers.now }
+    ensures { IfOk result (runs_spec.AreFound keys.now.keys prepared.now) }
+{
+    let labels = keys.as_slice();
+    let read = prepared.as_slice();
+    matching(alloc, labels, read, numbers)
 }
 
 // Those of the numbers on whose label sets the matchers hold.

@@ -4,6 +4,7 @@ ghost use Rattle.srv_store.specs.Stores as spec;
 use crate::addition::{Addition, add_at, numbered};
 use crate::entry::Entry;
 use crate::lookups::{found_runs, newest_entries, ranged_series, selected_entries};
+use crate::map::LabelMap;
 use crate::run::Run;
 use indexmap::IndexSet;
 use op_base::{Labels, List, Matcher, Moment, NoMemory};
@@ -11,24 +12,28 @@ use std::alloc::Global;
 use std::marker::Model;
 
 /// The samples that were stored. Contracts see the list of their entries in the order in which they
-/// came. It keeps a run of readings for each label set, and its allocator.
+/// came. It keeps a run of readings for each label set, for each label the numbers of
+/// the runs that have it, and its allocator.
 #[derive(Debug, Drop)]
 pub struct Store {
     alloc: Global,
     keys: IndexSet<Labels>,
     runs: Vec<Run>,
+    index: LabelMap<List<usize>>,
     log: Vec<Addition>,
 }
 
 impl Model for Store {
     ghost use Rattle.srv_store.specs.Stores.{Store as Seen};
     ghost use Rattle.srv_store.specs.Runs.{IsKept, entries_of};
+    ghost use Rattle.srv_store.specs.Indexes.{IsIndex};
 
     ghost Value = { Seen };
 
     ghost view = { λ store. entries_of store.keys.keys store.log.items };
 
-    ghost invariant = { λ store. IsKept store.keys.keys store.runs.items store.log.items };
+    ghost invariant = { λ store. IsKept store.keys.keys store.runs.items store.log.items
+        × IsIndex store.keys.keys store.index };
 }
 
 impl Store {
@@ -40,6 +45,7 @@ impl Store {
             alloc,
             keys: IndexSet::new(alloc),
             runs: Vec::new(alloc),
+            index: LabelMap::new(alloc),
             log: Vec::new(alloc),
         }
     }
@@ -65,7 +71,13 @@ impl Store {
         ensures ok { OnOk result (self.new ≡ spec.with_one self.old entry.now) }
         ensures err { OnErr result (self.new ≡ self.old) }
     {
-        let number = numbered(self.alloc, &mut self.keys, &mut self.runs, &entry.labels)?;
+        let number = numbered(
+            self.alloc,
+            &mut self.keys,
+            &mut self.runs,
+            &mut self.index,
+            &entry.labels,
+        )?;
         let addition = Addition {
             number,
             at: entry.at,
@@ -124,7 +136,7 @@ impl Store {
     ) -> Result<List<Entry>, NoMemory>
         ensures { IfOk result (λ entries. entries ≡ spec.selected self.now matchers.now from.now to.now) }
     {
-        let found = found_runs(self.alloc, &self.keys, matchers)?;
+        let found = found_runs(self.alloc, &self.keys, &self.index, matchers)?;
         selected_entries(self.alloc, self.runs.as_slice(), found, from, to)
     }
 
@@ -138,7 +150,7 @@ impl Store {
     ) -> Result<List<Entry>, NoMemory>
         ensures { IfOk result (λ entries. entries ≡ spec.newest self.now matchers.now from.now to.now) }
     {
-        let found = found_runs(self.alloc, &self.keys, matchers)?;
+        let found = found_runs(self.alloc, &self.keys, &self.index, matchers)?;
         newest_entries(self.alloc, self.runs.as_slice(), found, from, to)
     }
 
@@ -153,7 +165,7 @@ impl Store {
     ) -> Result<List<(Labels, List<(Moment, i64)>)>, NoMemory>
         ensures { IfOk result (λ series. series ≡ spec.ranged self.now matchers.now from.now to.now) }
     {
-        let found = found_runs(self.alloc, &self.keys, matchers)?;
+        let found = found_runs(self.alloc, &self.keys, &self.index, matchers)?;
         ranged_series(self.alloc, self.runs.as_slice(), found, from, to)
     }
 }
