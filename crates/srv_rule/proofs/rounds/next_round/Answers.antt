@@ -1,5 +1,5 @@
 -- Each way out leaves a first part of the entries in the store; those that are answered stand behind what was there.
-use Rattle.std.proofs.Common.{[], ◌∙◌, ◌++◌, sym, ap, append-nil}
+use Rattle.std.proofs.Common.{◌∙◌, ◌++◌, sym, ap, append-nil}
 use Rattle.srv_rule.specs.Rounds.{ran_of}
 use Rattle.srv_rule.proofs.RunLemmas.{cut_in_rules, cut_after_rules, cut_at_end, all_of_round, behind_more, on_err_anyway}
 use Rattle.srv_rule.proofs.rounds.next_round.Goals as goal

@@ -1,5 +1,5 @@
 -- What is added are the values, then the stale entries.
-use Rattle.std.proofs.Common.{[], ◌++◌, unwrap_or, OnErr, subst, ap, ◌∙◌}
+use Rattle.std.proofs.Common.{[], ◌++◌, unwrap_or, subst, ap, ◌∙◌}
 use Rattle.std.proofs.lemmas.Result.{on_ok_weaker}
 use Rattle.srv_store.specs.Stores.{AddsPrefix, with_all}
 use Rattle.srv_store.specs.LabelMaps.{stale_entries}
