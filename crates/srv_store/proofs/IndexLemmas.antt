@@ -16,7 +16,8 @@ use Rattle.op_base.specs.declared.matcher.MatchOp.TheVariants.{Eq}
 use Rattle.op_base.specs.Labels.{Texts, labels_cmp, labels_with, name_in, text_in}
 use Rattle.op_base.specs.Maps.{value_at}
 use Rattle.op_base.specs.Matchers.{passes, holds_on, label_value}
-use Rattle.srv_store.specs.LabelMaps.{value_of, members_of, with_member}
+use Rattle.srv_store.specs.LabelMaps.{value_of}
+use Rattle.op_base.specs.Maps.{members_at, with_member}
 use Rattle.srv_store.specs.Stores.{same_labels, all_hold}
 use Rattle.srv_store.specs.Runs.{key_at}
 use Rattle.srv_store.specs.Indexes.{Index, IsListed, IsLonger, AreListed, IsIndex, HasAsked, Covers}
@@ -35,23 +36,23 @@ any_last n (x ∷ xs) = ap (λ b. nat_eq n x || b) (any_last n xs) ∙ or_true (
     or_true false = refl
 
 -- what stands at a label after one more member at another or the same
-members_after : (index : Index) (label other : Texts) (m : ℕ) → members_of (with_member index label m) other ≡ unwrap_or (cond (eq_by_cmp labels_cmp other label) (Some (members_of index label ++ m ∷ [])) (value_of index other)) []
-members_after index label other m = ap (λ o. unwrap_or o []) (find-put labels_cmp labels_total other label (members_of index label ++ m ∷ []) index)
+members_after : (index : Index) (label other : Texts) (m : ℕ) → members_at labels_cmp (with_member labels_cmp index label m) other ≡ unwrap_or (cond (eq_by_cmp labels_cmp other label) (Some (members_at labels_cmp index label ++ m ∷ [])) (value_of index other)) []
+members_after index label other m = ap (λ o. unwrap_or o []) (find-put labels_cmp labels_total other label (members_at labels_cmp index label ++ m ∷ []) index)
 
-longer_member : (index : Index) (label : Texts) (m : ℕ) → IsLonger index (with_member index label m)
+longer_member : (index : Index) (label : Texts) (m : ℕ) → IsLonger index (with_member labels_cmp index label m)
 longer_member index label m other n listed =
     ap (list_any (nat_eq n)) (members_after index label other m)
     ∙ elim (eq_by_cmp labels_cmp other label) as (λ b. eq_by_cmp labels_cmp other label ≡ b
-    → list_any (nat_eq n) (unwrap_or (cond b (Some (members_of index label ++ m ∷ [])) (value_of index other)) []) ≡ true) [
-      | true ↦ λ tie. any_more n (members_of index label) m (ap (λ l. list_any (nat_eq n) (members_of index l)) (sym (labels_same other label (is_tied _ tie))) ∙ listed)
+    → list_any (nat_eq n) (unwrap_or (cond b (Some (members_at labels_cmp index label ++ m ∷ [])) (value_of index other)) []) ≡ true) [
+      | true ↦ λ tie. any_more n (members_at labels_cmp index label) m (ap (λ l. list_any (nat_eq n) (members_at labels_cmp index l)) (sym (labels_same other label (is_tied _ tie))) ∙ listed)
       | false ↦ λ _. listed
     ] refl
 
-listed_member : (index : Index) (label : Texts) (n : ℕ) → IsListed (with_member index label n) label n
+listed_member : (index : Index) (label : Texts) (n : ℕ) → IsListed (with_member labels_cmp index label n) label n
 listed_member index label n =
     ap (list_any (nat_eq n)) (members_after index label label n)
-    ∙ ap (λ b. list_any (nat_eq n) (unwrap_or (cond b (Some (members_of index label ++ n ∷ [])) (value_of index label)) [])) (itself label)
-    ∙ any_last n (members_of index label)
+    ∙ ap (λ b. list_any (nat_eq n) (unwrap_or (cond b (Some (members_at labels_cmp index label ++ n ∷ [])) (value_of index label)) [])) (itself label)
+    ∙ any_last n (members_at labels_cmp index label)
   where
     itself : (label : Texts) → eq_by_cmp labels_cmp label label ≡ true
     itself label = ap is_eq (tied_itself labels_total label)
@@ -64,15 +65,15 @@ pub longer_itself : (index : Index) → IsLonger index index
 longer_itself index label n listed = listed
 
 -- one label more is listed
-pub longer_step : (start index new : Index) (label shown : Texts) (m : ℕ) → IsLonger start index → label ≡ shown → new ≡ with_member index label m → IsLonger start new
+pub longer_step : (start index new : Index) (label shown : Texts) (m : ℕ) → IsLonger start index → label ≡ shown → new ≡ with_member labels_cmp index label m → IsLonger start new
 longer_step start index new label shown m grown same is other n listed =
     subst (λ (i : Index). IsListed i other n) (sym is) (longer_member index label m other n (grown other n listed))
 
-pub listed_step : (index new : Index) (labels label : Texts) (m at next : ℕ) → ((place : ℕ) → place < at → IsListed index (label_in labels place) m) → label ≡ label_in labels at → new ≡ with_member index label m
+pub listed_step : (index new : Index) (labels label : Texts) (m at next : ℕ) → ((place : ℕ) → place < at → IsListed index (label_in labels place) m) → label ≡ label_in labels at → new ≡ with_member labels_cmp index label m
     → next ≡ at + 1 → (place : ℕ) → place < next → IsListed new (label_in labels place) m
 listed_step index new labels label m at next before same is count place below =
     subst (λ (i : Index). IsListed i (label_in labels place) m) (sym is) (
-    ⊎_elim (λ (here : place ≡ at). subst (λ l. IsListed (with_member index label m) l m) (same ∙ ap (label_in labels) (sym here)) (listed_member index label m))
+    ⊎_elim (λ (here : place ≡ at). subst (λ l. IsListed (with_member labels_cmp index label m) l m) (same ∙ ap (label_in labels) (sym here)) (listed_member index label m))
     (⊎_elim (λ (less : place < at). longer_member index label m (label_in labels place) m (before place less)) (λ (more : at < place). absurd (omega arith)))
     (cases_order place at))
 
@@ -115,9 +116,9 @@ index_grown keys new_keys index new labels number old absent is longer count lis
     grown = is ∙ ap (λ b. if b then keys else keys ++ labels ∷ []) absent
 
 -- ---- what a matcher asks for
-pub asked_told : (index : Index) (m : Matcher) (label : Texts) (numbers : List ℕ) → m.op ≡ Eq → 0 < length m.value → label ≡ labels_with [] m.name m.value → members_of index label ≡ numbers → HasAsked index m numbers
+pub asked_told : (index : Index) (m : Matcher) (label : Texts) (numbers : List ℕ) → m.op ≡ Eq → 0 < length m.value → label ≡ labels_with [] m.name m.value → members_at labels_cmp index label ≡ numbers → HasAsked index m numbers
 asked_told index m label numbers op some is members labels n listed holds =
-    ap (list_any (nat_eq n)) (sym members) ∙ ap (λ l. list_any (nat_eq n) (members_of index l)) is
+    ap (list_any (nat_eq n)) (sym members) ∙ ap (λ l. list_any (nat_eq n) (members_at labels_cmp index l)) is
     ∙ listed m.name m.value some (ap (λ op. passes op m.value (label_value labels m.name)) (sym op) ∙ holds)
 
 pub some_bytes : (b : Bool) (text : List ℕ) → ((b ≡ true) ↔ (text ≡ [])) → b ≡ false → 0 < length text
