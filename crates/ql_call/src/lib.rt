@@ -15,6 +15,7 @@ mod function;
 mod keys;
 mod label_calls;
 mod labels;
+mod laws;
 mod matching;
 mod naming;
 mod numbers;
@@ -31,6 +32,10 @@ pub use arithmetic::arith;
 pub use calls::call;
 pub use changed::Changed;
 pub use function::{Function, RangeFunction};
+pub use laws::{
+    best_are_kept, clashes_are_least, groups_by_key, labels_by_name, nodes_keep_order,
+    partners_by_key, ranges_by_neighbours, sets_by_key, vectors_by_labels,
+};
 pub use operand::{Operand, elements_at, failure_in, number_at, outcome_of, scalar_at, text_at};
 pub use operators::signed;
 pub use outcome::Outcome;

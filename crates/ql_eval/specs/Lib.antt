@@ -1,4 +1,5 @@
 pub mod Absent
+pub mod AbsentLabels
 pub mod Enforcement
 pub mod Holding
 pub mod Selected

@@ -1,9 +1,10 @@
 // The value of an expression, node by node.
-ghost use Rattle.std.specs.Prelude.{◌≡◌, ◌++◌, map, drop, IfOk};
+ghost use Rattle.std.specs.Prelude.{◌≡◌, ◌++◌, map, drop, true, IfOk};
 ghost use Rattle.ql_call.specs.Aggregates as aggregates;
 ghost use Rattle.ql_call.specs.Calls as calls;
 ghost use Rattle.ql_call.specs.Operands.{elements_at, number_at, scalar_at, text_at, failure_in};
 ghost use Rattle.ql_call.specs.Operators as operators;
+ghost use Rattle.ql_call.specs.Ordered.{is_ordered};
 ghost use Rattle.ql_call.specs.Sets as sets;
 ghost use Rattle.ql_eval.specs.Values as spec;
 
@@ -22,7 +23,8 @@ use std::alloc::Global;
 /// expression that is neither a vector nor a scalar comes to the empty vector.
 #[tactic(auto, unfolding(crate::specs::Values::value_of))]
 pub fn eval(alloc: Global, expr: &Expr, store: &Store, t: Moment) -> Result<Outcome, NoMemory>
-    ensures { IfOk result (λ outcome. outcome ≡ spec.value_of (spec.whole store.now t) expr.now) }
+    ensures value { IfOk result (λ outcome. outcome ≡ spec.value_of (spec.whole store.now t) expr.now) }
+    ensures ordered { IfOk result (λ outcome. is_ordered outcome ≡ true) }
 {
     let operand = operand(alloc, expr, store, &t)?;
     Ok(outcome_of(alloc, operand))

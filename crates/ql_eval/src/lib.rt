@@ -5,6 +5,7 @@
 //! entries of that label alone is the contract of `enforced_alike`.
 #![tactic(auto)]
 
+ghost use Rattle.ql_eval.specs.AbsentLabels.{AbsentByName};
 ghost use Rattle.ql_eval.specs.Enforcement.{IsEnforcedAlike};
 
 mod absent;
@@ -17,4 +18,10 @@ pub use evaluation::eval;
 /// entries of the one namespace.
 pub fn enforced_alike()
     ensures { IsEnforcedAlike }
+{}
+
+/// A label that `absent` of a selector gives is that of the first equality on its name, where no other
+/// matcher on the name follows.
+pub fn absent_by_name()
+    ensures { AbsentByName }
 {}

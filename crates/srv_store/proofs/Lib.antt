@@ -10,3 +10,5 @@ mod LatestLemmas
 mod SelectedLemmas
 mod RangedLemmas
 mod IndexLemmas
+pub mod RisingLemmas
+pub mod RisingEntries

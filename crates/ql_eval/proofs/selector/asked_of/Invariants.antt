@@ -1,5 +1,5 @@
 -- The name and the matchers so far.
-use Rattle.std.proofs.Common.{◌≡◌, ◌++◌, [], take}
+use Rattle.std.proofs.Common.{◌≡◌, take}
 use Rattle.ql_eval.specs.Selected as spec
 use Rattle.ql_eval.proofs.selector.asked_of.Given as goal
 
