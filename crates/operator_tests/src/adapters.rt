@@ -1,16 +1,17 @@
-//! Sources, sinks and folders in memory, and their faults.
+//! The adapters in memory with their faults, those that never fail, and those over the real system.
 
-use crate::things::{bytes_of, one};
+use crate::things::{bytes_of, is_so, list_of};
 use op_base::{List, NoMemory};
 use op_edges::{
-    Failed, FileRead, Folder, FolderError, MemFolder, MemSink, MemSource, Sink, Source, SureFolder,
-    SureSink, SureSource, put_all,
+    DirFolder, Failed, FileRead, Folder, FolderError, MemFolder, MemSink, MemSource, Sink, Source,
+    StdSink, StdSource, SureFolder, SureSink, SureSource, put_all,
 };
 use std::alloc::Global;
 use std::test::Fail;
+use std::{fs, io};
 
 /// Whether a read into four bytes gives so many, of which that is the first.
-pub fn reads<S: Source>(source: &mut S, count: usize, first: u8) -> bool {
+fn reads<S: Source>(source: &mut S, count: usize, first: u8) -> bool {
     let mut into = [0; 4];
     match source.read(&mut into) {
         Ok(came) => came == count && into[0] == first,
@@ -18,36 +19,33 @@ pub fn reads<S: Source>(source: &mut S, count: usize, first: u8) -> bool {
     }
 }
 
-/// Whether a read fails.
-pub fn read_fails<S: Source>(source: &mut S) -> bool {
-    let mut into = [0; 4];
-    source.read(&mut into).is_err()
-}
-
 /// Whether all bytes are taken.
-pub fn writes<O: Sink>(sink: &mut O, bytes: &[u8]) -> bool {
+fn writes<O: Sink>(sink: &mut O, bytes: &[u8]) -> bool {
     put_all(sink, bytes).is_ok()
 }
 
-/// Whether a listing has so many names.
-pub fn lists<F: Folder>(alloc: Global, folder: &mut F, dir: &str, count: usize) -> bool {
+/// How many names a listing has, up to 2: `o` where it has more, `f` where the call fails and `m` for want
+/// of memory.
+fn listed<F: Folder>(alloc: Global, folder: &mut F, dir: &str) -> char {
     match folder.list(alloc, dir) {
-        Ok(names) => names.len() == count,
-        Err(_) => false,
+        Ok(names) => digit(names.len()),
+        Err(FolderError::Failed) => 'f',
+        Err(FolderError::NoMemory) => 'm',
     }
 }
 
-/// Whether a listing fails.
-pub fn list_fails<F: Folder>(alloc: Global, folder: &mut F, dir: &str) -> bool {
-    match folder.list(alloc, dir) {
-        Err(FolderError::Failed) => true,
-        Err(FolderError::NoMemory) | Ok(_) => false,
+fn digit(count: usize) -> char {
+    match count {
+        0 => '0',
+        1 => '1',
+        2 => '2',
+        _ => 'o',
     }
 }
 
 /// What is read of a file: `w` where it has three bytes, `o` where it has others, `l` where it is longer
 /// than the room, `f` where the call fails and `m` for want of memory.
-pub fn read_of<F: Folder>(alloc: Global, folder: &mut F, name: &str, room: usize) -> char {
+fn read_of<F: Folder>(alloc: Global, folder: &mut F, name: &str, room: usize) -> char {
     match folder.read_file(alloc, "box", name, room) {
         Ok(FileRead::Whole(bytes)) => if bytes.len() == 3 { 'w' } else { 'o' },
         Ok(FileRead::Longer) => 'l',
@@ -56,59 +54,112 @@ pub fn read_of<F: Folder>(alloc: Global, folder: &mut F, name: &str, room: usize
     }
 }
 
-#[test]
-fn listed_reads_fail(rt: HostRuntime) -> Result<(), Fail> {
-    let alloc = rt.alloc();
-    let mut source = MemSource::new(bytes_of(alloc, "abcdef")?, one(alloc, 2)?);
-    assert!(rt; reads(&mut source, 4, b'a'));
-    assert!(rt; read_fails(&mut source), "the second call");
-    assert!(rt; reads(&mut source, 2, b'e'), "no byte is lost");
-    assert!(rt; reads(&mut source, 0, 0), "the end");
-    Ok(())
+/// Whether the second read fails, as listed, and no byte is lost.
+fn listed_read_fails(alloc: Global) -> Result<bool, NoMemory> {
+    let mut source = MemSource::new(bytes_of(alloc, "abcdef")?, list_of(alloc, 2)?);
+    Ok(
+        reads(&mut source, 4, b'a')
+            && source.read(&mut [0; 4]).is_err()
+            && reads(&mut source, 2, b'e')
+            && reads(&mut source, 0, 0),
+    )
 }
 
-#[test]
-fn listed_and_roomless_writes_fail(rt: HostRuntime) -> Result<(), Fail> {
-    let alloc = rt.alloc();
-    let mut sink = MemSink::new(alloc, 4, one(alloc, 2)?)?;
-    assert!(rt; writes(&mut sink, b"abc"));
-    assert!(rt; !writes(&mut sink, b"d"), "the second call");
-    assert!(rt; !writes(&mut sink, b"de"), "there is room for one");
-    assert!(rt; sink.taken() == b"abcd".as_slice());
-    Ok(())
+/// Whether the second write fails, as listed, and two bytes do where there is room for one.
+fn listed_and_roomless_writes_fail(alloc: Global) -> Result<bool, NoMemory> {
+    let mut sink = MemSink::new(alloc, 4, list_of(alloc, 2)?)?;
+    Ok(
+        writes(&mut sink, b"abc")
+            && !writes(&mut sink, b"d")
+            && !writes(&mut sink, b"de")
+            && sink.taken() == b"abcd".as_slice(),
+    )
 }
 
+/// The folders `box` with the files `a` and `b`, and `made` without one; the first call fails.
 fn folder_in_memory(alloc: Global) -> Result<MemFolder, NoMemory> {
-    let mut folder = MemFolder::new(alloc, one(alloc, 1)?);
+    let mut folder = MemFolder::new(alloc, list_of(alloc, 1)?);
     folder.put("box", "b", bytes_of(alloc, "xyz")?)?;
     folder.put("box", "a", List::new(alloc))?;
     folder.make("made")?;
     Ok(folder)
 }
 
-#[test]
-fn listed_calls_and_missing_files_fail(rt: HostRuntime) -> Result<(), Fail> {
-    let alloc = rt.alloc();
+/// Whether the file `b` of the folder `box` is read, and not what isn't there.
+fn reads_what_is_there<F: Folder>(alloc: Global, folder: &mut F) -> bool {
+    read_of(alloc, folder, "b", 3) == 'w'
+        && read_of(alloc, folder, "b", 2) == 'l'
+        && read_of(alloc, folder, "c", 9) == 'f'
+        && listed(alloc, folder, "none") == 'f'
+}
+
+/// Whether the first call fails, as listed, and the others answer.
+fn listed_call_fails(alloc: Global) -> Result<bool, NoMemory> {
     let mut folder = folder_in_memory(alloc)?;
-    assert!(rt; list_fails(alloc, &mut folder, "box"), "the first call");
-    assert!(rt; lists(alloc, &mut folder, "box", 2));
-    assert!(rt; lists(alloc, &mut folder, "made", 0));
-    assert!(rt; list_fails(alloc, &mut folder, "none"));
-    assert!(rt; read_of(alloc, &mut folder, "b", 3) == 'w');
-    assert!(rt; read_of(alloc, &mut folder, "b", 2) == 'l');
-    assert!(rt; read_of(alloc, &mut folder, "c", 9) == 'f');
-    Ok(())
+    Ok(
+        listed(alloc, &mut folder, "box") == 'f'
+            && listed(alloc, &mut folder, "box") == '2'
+            && listed(alloc, &mut folder, "made") == '0'
+            && reads_what_is_there(alloc, &mut folder),
+    )
+}
+
+fn sure_source_reads(alloc: Global) -> Result<bool, NoMemory> {
+    Ok(reads(&mut SureSource::new(bytes_of(alloc, "ab")?), 2, b'a'))
+}
+
+fn sure_folder_reads(alloc: Global) -> Result<bool, NoMemory> {
+    let mut folder = SureFolder::new(alloc);
+    folder.put("box", "b", bytes_of(alloc, "xyz")?)?;
+    Ok(listed(alloc, &mut folder, "none") == '0' && read_of(alloc, &mut folder, "b", 3) == 'w')
 }
 
 #[test]
-fn sure_forms_answer(rt: HostRuntime) -> Result<(), Fail> {
-    let alloc = rt.alloc();
-    let mut source = SureSource::new(bytes_of(alloc, "ab")?);
-    assert!(rt; reads(&mut source, 2, b'a'));
+fn forms_in_memory_answer(rt: HostRuntime) {
+    assert!(rt; is_so(listed_read_fails(rt.alloc())));
+    assert!(rt; is_so(listed_and_roomless_writes_fail(rt.alloc())));
+    assert!(rt; is_so(listed_call_fails(rt.alloc())));
+    assert!(rt; is_so(sure_source_reads(rt.alloc())));
     assert!(rt; writes(&mut SureSink::new(), b"abc"));
-    let mut folder = SureFolder::new(alloc);
-    folder.put("box", "b", bytes_of(alloc, "xyz")?)?;
-    assert!(rt; lists(alloc, &mut folder, "none", 0));
-    assert!(rt; read_of(alloc, &mut folder, "b", 3) == 'w');
+    assert!(rt; is_so(sure_folder_reads(rt.alloc())));
+}
+
+#[test]
+fn a_real_folder_is_listed_and_read(rt: HostRuntime) -> Result<(), Fail> {
+    fs::create_dir_all(&rt, "box")?;
+    fs::write(&rt, "box/b", "xyz")?;
+    let mut folder = DirFolder::new(rt.clone()?);
+    assert!(rt; listed(rt.alloc(), &mut folder, "box") == '1');
+    assert!(rt; reads_what_is_there(rt.alloc(), &mut folder));
+    fs::remove_dir_all(&rt, "box")?;
     Ok(())
+}
+
+/// Whether a file gives what it took, and then its end.
+fn takes_and_gives(rt: &HostRuntime) -> io::Result<bool> {
+    let is_taken = writes(&mut StdSink::new(fs::create(rt, "taken")?), b"xyz");
+    let mut source = StdSource::new(fs::open(rt, "taken")?);
+    Ok(is_taken && reads(&mut source, 3, b'x') && reads(&mut source, 0, 0))
+}
+
+/// Whether a file that is open for writing alone gives nothing.
+fn gives_nothing(rt: &HostRuntime) -> io::Result<bool> {
+    Ok(
+        StdSource::new(fs::create(rt, "taken")?)
+            .read(&mut [0; 4])
+            .is_err(),
+    )
+}
+
+/// Whether a file that is open for reading alone takes nothing.
+fn takes_nothing(rt: &HostRuntime) -> io::Result<bool> {
+    Ok(!writes(&mut StdSink::new(fs::open(rt, "taken")?), b"x"))
+}
+
+#[test]
+fn a_real_file_takes_and_gives_bytes(rt: HostRuntime) {
+    assert!(rt; matches!(takes_and_gives(&rt), Ok(true)));
+    assert!(rt; matches!(gives_nothing(&rt), Ok(true)));
+    assert!(rt; matches!(takes_nothing(&rt), Ok(true)));
+    assert!(rt; fs::remove_file(&rt, "taken").is_ok());
 }

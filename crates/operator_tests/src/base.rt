@@ -1,68 +1,54 @@
 //! Values that no command makes.
 
-use crate::things::{label, one, text};
-use op_base::{
-    Labels, List, MatchFault, MatchOp, Matcher, NoMemory, Requirement, Selector, Spare, Table,
-    Tags, Text, insert_with, is_tag_key, is_tag_value,
-};
+use crate::things::{is_so, label, list_of, text};
+use op_base::{NoMemory, Requirement, Selector, Spare, Table, Tags, Text, insert_with};
 use std::alloc::Global;
 use std::cmp::Ordering;
-use std::test::Fail;
 
-#[test]
-fn a_label_may_have_an_empty_name(rt: HostRuntime) -> Result<(), Fail> {
-    let mut labels = label(rt.alloc(), "", "x")?;
-    assert!(rt; labels.get("") == Some("x"));
+/// Whether a label with an empty name is held until it is removed.
+fn holds_an_empty_name(alloc: Global) -> Result<bool, NoMemory> {
+    let mut labels = label(alloc, "", "x")?;
+    let is_held = labels.get("") == Some("x");
     labels.remove("");
-    assert!(rt; labels.get("") == None);
-    Ok(())
+    Ok(is_held && labels.get("") == None)
 }
 
-#[test]
-fn things_are_counted(rt: HostRuntime) -> Result<(), Fail> {
-    let mut items = one(rt.alloc(), 4)?;
-    assert!(rt; items.pop() == Some(4));
-    assert!(rt; items.is_empty());
-    assert!(rt; Text::new(rt.alloc()).is_empty());
-    assert!(rt; Table::<u8>::new(rt.alloc()).is_empty());
-    Ok(())
-}
-
-#[test]
-fn a_copy_is_equal(rt: HostRuntime) -> Result<(), Fail> {
-    let items = one(rt.alloc(), text(rt.alloc(), "a")?)?;
+/// Whether the copy of a list is equal to it.
+fn is_copied(alloc: Global) -> Result<bool, NoMemory> {
+    let items = list_of(alloc, text(alloc, "a")?)?;
     let copy = items.clone()?;
-    assert!(rt; copy == items);
-    assert!(rt; copy.cmp(&items) == Ordering::Equal);
-    assert!(rt; copy.partial_cmp(&items) == Some(Ordering::Equal));
-    Ok(())
+    Ok(
+        copy == items
+            && copy.cmp(&items) == Ordering::Equal
+            && copy.partial_cmp(&items) == Some(Ordering::Equal),
+    )
 }
 
-#[test]
-fn labels_and_texts_have_an_order(rt: HostRuntime) -> Result<(), Fail> {
-    assert!(rt; text(rt.alloc(), "a")? < text(rt.alloc(), "b")?);
-    assert!(rt; label(rt.alloc(), "a", "x")? < label(rt.alloc(), "b", "x")?);
-    Ok(())
+/// Whether a list has nothing once its one thing is taken out.
+fn is_emptied(alloc: Global) -> Result<bool, NoMemory> {
+    let mut items = list_of(alloc, 4)?;
+    Ok(items.pop() == Some(4) && items.is_empty())
 }
 
-#[test]
-fn a_value_that_is_no_pattern_is_told(rt: HostRuntime) -> Result<(), Fail> {
-    let matcher = Matcher {
-        name: text(rt.alloc(), "job")?,
-        op: MatchOp::Re,
-        value: text(rt.alloc(), "[")?,
-    };
-    let found = matcher.holds(rt.alloc(), &Labels::new(rt.alloc()));
-    assert!(rt; matches!(found, Err(MatchFault::BadPattern)));
-    Ok(())
+/// Whether new things have nothing.
+fn are_empty(alloc: Global) -> bool {
+    Text::new(alloc).is_empty() && Table::<u8>::new(alloc).is_empty()
 }
 
-#[test]
-fn tag_texts_have_their_forms(rt: HostRuntime) {
-    assert!(rt; is_tag_key("app.kubernetes.io/name"));
-    assert!(rt; !is_tag_key("a b"));
-    assert!(rt; is_tag_value("v1.2_3-x"));
-    assert!(rt; !is_tag_value("a/b"));
+fn texts_have_an_order(alloc: Global) -> Result<bool, NoMemory> {
+    Ok(text(alloc, "a")? < text(alloc, "b")?)
+}
+
+fn labels_have_an_order(alloc: Global) -> Result<bool, NoMemory> {
+    Ok(label(alloc, "a", "x")? < label(alloc, "b", "x")?)
+}
+
+/// Whether a thing is put where there is just room for it.
+fn is_put(alloc: Global) -> Result<bool, NoMemory> {
+    let mut kept = vec![in alloc; 1, 3]?;
+    let spare = Spare::new(alloc, 3)?;
+    insert_with(&mut kept, 1, 2, spare);
+    Ok(kept.as_slice() == [1, 2, 3].as_slice())
 }
 
 fn web(alloc: Global) -> Result<Tags, NoMemory> {
@@ -72,37 +58,49 @@ fn web(alloc: Global) -> Result<Tags, NoMemory> {
     Ok(tags)
 }
 
-fn app_and_tier(alloc: Global) -> Result<Selector, NoMemory> {
-    let mut all = one(
-        alloc,
-        Requirement::Is(text(alloc, "app")?, text(alloc, "web")?),
-    )?;
-    let mut tiers = one(alloc, text(alloc, "a")?)?;
+/// `app=web`.
+fn app(alloc: Global) -> Result<Requirement, NoMemory> {
+    Ok(Requirement::Is(text(alloc, "app")?, text(alloc, "web")?))
+}
+
+/// `tier in (a,b)`.
+fn tier(alloc: Global) -> Result<Requirement, NoMemory> {
+    let mut tiers = list_of(alloc, text(alloc, "a")?)?;
     tiers.push(text(alloc, "b")?)?;
-    all.push(Requirement::In(text(alloc, "tier")?, tiers))?;
+    Ok(Requirement::In(text(alloc, "tier")?, tiers))
+}
+
+fn app_and_tier(alloc: Global) -> Result<Selector, NoMemory> {
+    let mut all = list_of(alloc, app(alloc)?)?;
+    all.push(tier(alloc)?)?;
     all.push(Requirement::Absent(text(alloc, "x")?))?;
     Ok(Selector { all })
 }
 
-#[test]
-fn a_selector_chooses_tags(rt: HostRuntime) -> Result<(), Fail> {
-    let alloc = rt.alloc();
+fn is_written(alloc: Global) -> Result<bool, NoMemory> {
     let selector = app_and_tier(alloc)?;
-    assert!(rt; selector.text(alloc)?.as_str() == "app=web,tier in (a,b),!x");
+    Ok(selector.text(alloc)?.as_str() == "app=web,tier in (a,b),!x")
+}
+
+/// Whether it chooses the tags, and not once they have an empty one of that name.
+fn chooses(alloc: Global) -> Result<bool, NoMemory> {
     let tags = web(alloc)?;
-    assert!(rt; selector.holds(&tags));
+    let selector = app_and_tier(alloc)?;
     let mut marked = tags.copy()?;
     marked.set("x", "")?;
-    assert!(rt; !selector.holds(&marked), "an empty tag is there");
-    assert!(rt; marked != tags);
-    Ok(())
+    Ok(selector.holds(&tags) && !selector.holds(&marked) && marked != tags)
 }
 
 #[test]
-fn room_taken_beforehand_is_enough(rt: HostRuntime) -> Result<(), Fail> {
-    let mut kept = vec![in rt.alloc(); 1, 3]?;
-    let spare = Spare::new(rt.alloc(), 3)?;
-    insert_with(&mut kept, 1, 2, spare);
-    assert!(rt; kept.as_slice() == [1, 2, 3].as_slice());
-    Ok(())
+fn what_no_command_calls_answers(rt: HostRuntime) {
+    let alloc = rt.alloc();
+    assert!(rt; is_so(holds_an_empty_name(alloc)));
+    assert!(rt; is_so(is_copied(alloc)));
+    assert!(rt; is_so(is_emptied(alloc)));
+    assert!(rt; are_empty(alloc));
+    assert!(rt; is_so(texts_have_an_order(alloc)));
+    assert!(rt; is_so(labels_have_an_order(alloc)));
+    assert!(rt; is_so(is_put(alloc)));
+    assert!(rt; is_so(chooses(alloc)));
+    assert!(rt; is_so(is_written(alloc)));
 }

@@ -11,8 +11,6 @@ mod base;
 #[cfg(test)]
 mod lines;
 #[cfg(test)]
-mod real;
-#[cfg(test)]
 mod reports;
 #[cfg(test)]
 mod rules;

@@ -2,11 +2,10 @@
 
 ghost use Rattle.std.specs.Prelude.{◌≡◌, true};
 
-use crate::things::{bytes_of, one};
+use crate::things::{bytes_of, is_so, list_of};
 use op_base::{List, NoMemory, Text};
 use op_edges::{Line, LineReader, MemSource, Source, SureSource};
 use std::alloc::Global;
-use std::test::Fail;
 
 /// For each line `0` where it is empty, `L` where it is long and `1` else; then `.` for the end,
 /// `!` for a fault or `^` for the limit.
@@ -34,48 +33,42 @@ fn shape(line: &Line) -> char {
     }
 }
 
-/// The shapes of the lines of a text.
-fn shapes_of(alloc: Global, text: &str) -> Result<Text, NoMemory> {
-    let mut source = SureSource::new(bytes_of(alloc, text)?);
-    shapes(alloc, &mut source)
+/// Whether the lines of a text have these shapes.
+fn are_shaped(alloc: Global, text: &str, wanted: &str) -> Result<bool, NoMemory> {
+    let found = shapes(alloc, &mut SureSource::new(bytes_of(alloc, text)?))?;
+    Ok(found.as_str() == wanted)
 }
 
-#[test]
-fn lines_come_in_order(rt: HostRuntime) -> Result<(), Fail> {
-    assert!(rt; shapes_of(rt.alloc(), "a\n\nbc")?.as_str() == "101.");
-    assert!(rt;
-        shapes_of(rt.alloc(), "")?.as_str() == ".",
-        "nothing has no line"
-    );
-    Ok(())
+/// Whether a second read that fails ends the lines.
+fn ends_at_a_fault(alloc: Global) -> Result<bool, NoMemory> {
+    let mut source = MemSource::new(bytes_of(alloc, "a\nb")?, list_of(alloc, 2)?);
+    Ok(shapes(alloc, &mut source)?.as_str() == "1!")
 }
 
-/// The shapes of two lines, where the second read fails.
-fn shapes_with_fault(alloc: Global) -> Result<Text, NoMemory> {
-    let mut source = MemSource::new(bytes_of(alloc, "a\nb")?, one(alloc, 2)?);
-    shapes(alloc, &mut source)
-}
-
-#[test]
-fn a_fault_ends_the_lines(rt: HostRuntime) -> Result<(), Fail> {
-    assert!(rt;
-        shapes_with_fault(rt.alloc())?.as_str() == "1!",
-        "a fault before the end"
-    );
-    Ok(())
-}
-
-/// The shapes of a line of so many bytes, and of one more line.
-fn shapes_at(alloc: Global, size: usize) -> Result<Text, NoMemory> {
+/// A line of so many bytes, and one more line.
+fn two_lines(alloc: Global, size: usize) -> Result<List<u8>, NoMemory> {
     let mut bytes = vec![in alloc; b'x'; size]?;
     bytes.extend_from_slice(b"\ny\n")?;
-    let mut source = SureSource::new(List::from_vec(bytes));
-    shapes(alloc, &mut source)
+    Ok(List::from_vec(bytes))
+}
+
+/// Whether a line of so many bytes, and one more line, have these shapes.
+fn are_shaped_at(alloc: Global, size: usize, wanted: &str) -> Result<bool, NoMemory> {
+    let found = shapes(alloc, &mut SureSource::new(two_lines(alloc, size)?))?;
+    Ok(found.as_str() == wanted)
 }
 
 #[test]
-fn a_longer_line_is_passed_over(rt: HostRuntime) -> Result<(), Fail> {
-    assert!(rt; shapes_at(rt.alloc(), 1_048_576)?.as_str() == "11.");
-    assert!(rt; shapes_at(rt.alloc(), 1_048_577)?.as_str() == "L1.");
-    Ok(())
+fn lines_come_in_order(rt: HostRuntime) {
+    assert!(rt; is_so(are_shaped(rt.alloc(), "a\n\nbc", "101.")));
+    assert!(rt;
+        is_so(are_shaped(rt.alloc(), "", ".")),
+        "nothing has no line"
+    );
+    assert!(rt;
+        is_so(ends_at_a_fault(rt.alloc())),
+        "a fault before the end"
+    );
+    assert!(rt; is_so(are_shaped_at(rt.alloc(), 1_048_576, "11.")));
+    assert!(rt; is_so(are_shaped_at(rt.alloc(), 1_048_577, "L1.")));
 }

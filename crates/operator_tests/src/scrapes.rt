@@ -3,13 +3,12 @@
 ghost use Rattle.std.specs.Prelude.{IfOk};
 ghost use Rattle.op_relabel.specs.Relabelled.{HasPatterns};
 
-use crate::things::{label, text};
+use crate::things::{is_so, label, text};
 use cfg_types::{Job, StaticConfig};
 use op_base::{List, Moment, NoMemory, PatternFault, Span, Tags};
 use op_relabel::{CheckedSteps, Step, relabel};
 use srv_scrape::{Pages, Target, scrape};
 use std::alloc::Global;
-use std::test::Fail;
 
 fn copying(alloc: Global) -> Result<List<Step>, NoMemory>
     ensures { IfOk result HasPatterns }
@@ -26,12 +25,6 @@ fn is_copied(alloc: Global) -> Result<bool, NoMemory> {
     }
 }
 
-#[test]
-fn a_step_copies_a_label(rt: HostRuntime) -> Result<(), Fail> {
-    assert!(rt; is_copied(rt.alloc())?);
-    Ok(())
-}
-
 // Whether a step with that pattern is taken.
 fn is_taken(alloc: Global, pattern: &str) -> Result<bool, NoMemory> {
     let mut step = Step::copy_label(alloc, "a", "b")?;
@@ -42,13 +35,6 @@ fn is_taken(alloc: Global, pattern: &str) -> Result<bool, NoMemory> {
         Err(PatternFault::BadPattern) => Ok(false),
         Err(PatternFault::NoMemory) => Err(NoMemory),
     }
-}
-
-#[test]
-fn a_step_whose_pattern_is_none_is_refused(rt: HostRuntime) -> Result<(), Fail> {
-    assert!(rt; is_taken(rt.alloc(), "x.*")?);
-    assert!(rt; !is_taken(rt.alloc(), "(")?);
-    Ok(())
 }
 
 fn job(alloc: Global) -> Result<Job, NoMemory> {
@@ -68,17 +54,19 @@ fn job(alloc: Global) -> Result<Job, NoMemory> {
     })
 }
 
-// How many entries a scrape without a page gives.
-fn entries_without_a_page(alloc: Global) -> Result<usize, NoMemory> {
+/// Whether a scrape without a page gives one entry.
+fn gives_up_alone(alloc: Global) -> Result<bool, NoMemory> {
     let target = Target {
         labels: label(alloc, "job", "j")?,
         url: text(alloc, "u")?,
     };
-    Ok(scrape(alloc, &job(alloc)?, &target, &Pages::new(alloc), Moment(0))?.len())
+    Ok(scrape(alloc, &job(alloc)?, &target, &Pages::new(alloc), Moment(0))?.len() == 1)
 }
 
 #[test]
-fn a_scrape_without_a_page_gives_up_alone(rt: HostRuntime) -> Result<(), Fail> {
-    assert!(rt; entries_without_a_page(rt.alloc())? == 1);
-    Ok(())
+fn one_thing_is_relabelled_and_scraped(rt: HostRuntime) {
+    assert!(rt; is_so(is_copied(rt.alloc())));
+    assert!(rt; is_so(is_taken(rt.alloc(), "x.*")));
+    assert!(rt; !is_so(is_taken(rt.alloc(), "(")), "no pattern");
+    assert!(rt; is_so(gives_up_alone(rt.alloc())));
 }
