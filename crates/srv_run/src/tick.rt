@@ -27,8 +27,14 @@ pub fn run_tick(
     ensures err { OnErr result (AddsPrefix store.old store.new
         (tick_over config.now pages.now (left store.old scraped.now states.now) t).memory.store) }
 {
-    let (given, mut added) =
-        store_scrapes(alloc, &config.prometheus.jobs, pages, scraped, store, t)?;
+    let (given, mut added) = store_scrapes(
+        alloc,
+        &config.prometheus.jobs,
+        pages,
+        scraped,
+        store,
+        t,
+    )?;
     let (next, view, more) = next_round(alloc, &config.rules, store, states, t)?;
     added.append(more)?;
     Ok((given, next, view.failed, added))
