@@ -1,11 +1,11 @@
 ghost use Rattle.std.specs.Prelude.{◌≡◌, ◌<◌};
 
-use crate::faults::{Faults, faults_of};
-use crate::listing::Listing;
-use crate::manifests::manifests_of;
+use crate::faults::{check_faults, numbers_behind, room_behind};
+use crate::files::{Disk, Files, path_in};
+use crate::manifests::put_manifests;
 use crate::source_again::AgainSource;
 use op_base::{List, Steps, Text};
-use op_edges::{Folder, MemFolder, MemSink, MemSource, Source};
+use op_edges::{MemFolder, MemSink, MemSource, Source};
 use operator_cli::{Status, operate};
 use operator_tables::{Tally, Trouble, cell_of, number_of};
 use std::alloc::Global;
@@ -17,61 +17,28 @@ use std::sync::ledger::{Blank, Ledger};
 struct Run {
     words: Vec<String>,
     manifests: MemFolder,
-    input_fails: List<u64>,
     out: MemSink,
     err: MemSink,
 }
 
-impl Run {
-    fn new<F: Folder>(alloc: Global, folder: &mut F, files: &Listing) -> Result<Run, Trouble> {
-        let faults = files.text(alloc, folder, "faults")?;
-        let Faults {
-            folder: fails,
-            input: input_fails,
-            out,
-            err,
-        } = faults_of(alloc, faults.as_str())?;
-        let words = files.text(alloc, folder, "args")?;
-        Ok(Run {
-            words: words_of(alloc, words.as_str())?,
-            manifests: manifests_of(alloc, folder, files, fails)?,
-            input_fails,
-            out: MemSink::new(alloc, out.room, out.fails)?,
-            err: MemSink::new(alloc, err.room, err.fails)?,
-        })
-    }
-}
-
-/// Runs the case of these files, and answers whether it does what it should.
-pub fn run_case<F: Folder>(
+/// Runs the case of this name in the folder, and answers whether it does what it should.
+pub fn run_case(
     alloc: Global,
-    folder: &mut F,
-    files: &Listing,
+    disk: &mut Disk,
+    dir: &str,
     name: &str,
     tally: &mut Tally,
 ) -> Result<bool, Trouble> {
-    known(files.names.as_slice())?;
-    let mut run = Run::new(alloc, folder, files)?;
-    judge_run(alloc, folder, files, name, &mut run, tally)
-}
-
-fn judge_run<F: Folder>(
-    alloc: Global,
-    folder: &mut F,
-    files: &Listing,
-    name: &str,
-    run: &mut Run,
-    tally: &mut Tally,
-) -> Result<bool, Trouble> {
-    let status = run_over_input(alloc, folder, files, run)?;
-    let is_status = status_alike(alloc, folder, files, name, status, tally)?;
-    let is_out = out_alike(alloc, folder, files, name, run.out.taken(), tally)?;
-    let is_err = err_alike(alloc, folder, files, name, run.err.taken(), tally)?;
-    Ok(is_status && is_out && is_err)
+    let dir = path_in(alloc, dir, name)?;
+    let files = Files::read(alloc, disk, dir.as_str())?;
+    check_names(files.names.as_slice())?;
+    let mut run = run_of(alloc, &files)?;
+    put_manifests(alloc, disk, dir.as_str(), &files, &mut run.manifests)?;
+    judge(alloc, &files, &mut run, name, tally)
 }
 
 // Each name is that of a file of a case.
-fn known(names: &[Text]) -> Result<(), Trouble> {
+fn check_names(names: &[Text]) -> Result<(), Trouble> {
     for name in names {
         if !is_known(name.as_str()) {
             return Err(Trouble::Unreadable("a file has a name that no case has"));
@@ -88,6 +55,18 @@ fn is_known(name: &str) -> bool {
     }
 }
 
+// The run of a case whose folder of manifests is still empty.
+fn run_of(alloc: Global, files: &Files) -> Result<Run, Trouble> {
+    let faults = files.text("faults")?;
+    check_faults(faults)?;
+    Ok(Run {
+        words: words_of(alloc, files.text("args")?)?,
+        manifests: MemFolder::new(alloc, numbers_behind(alloc, faults, "folder fails ")?),
+        out: sink_of(alloc, faults, "out room ", "out fails ")?,
+        err: sink_of(alloc, faults, "err room ", "err fails ")?,
+    })
+}
+
 fn words_of(alloc: Global, text: &str) -> Result<Vec<String>, Trouble> {
     let mut words = Vec::new(alloc);
     for line in text.lines() {
@@ -96,16 +75,49 @@ fn words_of(alloc: Global, text: &str) -> Result<Vec<String>, Trouble> {
     Ok(words)
 }
 
-fn run_over_input<F: Folder>(
+fn sink_of(alloc: Global, faults: &str, room: &str, fails: &str) -> Result<MemSink, Trouble> {
+    let fails = numbers_behind(alloc, faults, fails)?;
+    Ok(MemSink::new(alloc, room_behind(faults, room)?, fails)?)
+}
+
+// The bytes that the case gives as its input.
+fn input_of(alloc: Global, files: &Files) -> Result<List<u8>, Trouble> {
+    if !files.has("input") {
+        return Ok(List::from_vec(files.bytes("stdin").to_vec(alloc)?));
+    }
+    let written = files.text("input")?;
+    let cell = cell_of(alloc, written.strip_suffix('\n').unwrap_or(written))?;
+    Ok(List::from_vec(cell.into_string().into_bytes()))
+}
+
+// Whether the program does what the case wants.
+fn judge(
     alloc: Global,
-    folder: &mut F,
-    files: &Listing,
+    files: &Files,
     run: &mut Run,
-) -> Result<Status, Trouble> {
-    let total = total_of(alloc, folder, files)?;
-    let fails = run.input_fails.clone()?;
-    let bytes = input_of(alloc, folder, files)?;
-    Ok(run_bytes(alloc, run, bytes, fails, total))
+    name: &str,
+    tally: &mut Tally,
+) -> Result<bool, Trouble> {
+    let status = run_over_input(alloc, files, run)?;
+    let is_status = status_alike(alloc, files, name, status, tally)?;
+    let is_out = out_alike(alloc, files, name, run.out.taken(), tally)?;
+    let is_err = tally.compare(name, ": err", files.bytes("err"), run.err.taken())?;
+    Ok(is_status && is_out && is_err)
+}
+
+// Runs the program over the input of the case.
+fn run_over_input(alloc: Global, files: &Files, run: &mut Run) -> Result<Status, Trouble> {
+    let total = total_of(files)?;
+    let fails = numbers_behind(alloc, files.text("faults")?, "input fails ")?;
+    Ok(run_bytes(alloc, run, input_of(alloc, files)?, fails, total))
+}
+
+// How many bytes the input gives, where it begins again and again.
+fn total_of(files: &Files) -> Result<Option<u64>, Trouble> {
+    if !files.has("again") {
+        return Ok(None);
+    }
+    Ok(Some(number_of(files.text("again")?.trim())?))
 }
 
 fn run_bytes(
@@ -119,35 +131,6 @@ fn run_bytes(
         Some(total) => run_once(alloc, run, &mut AgainSource::new(bytes, total, fails)),
         None => run_once(alloc, run, &mut MemSource::new(bytes, fails)),
     }
-}
-
-// How many bytes the input gives, where it begins again and again.
-fn total_of<F: Folder>(
-    alloc: Global,
-    folder: &mut F,
-    files: &Listing,
-) -> Result<Option<u64>, Trouble> {
-    if !files.has("again") {
-        return Ok(None);
-    }
-    let total = files.text(alloc, folder, "again")?;
-    Ok(Some(number_of(total.as_str().trim())?))
-}
-
-fn input_of<F: Folder>(
-    alloc: Global,
-    folder: &mut F,
-    files: &Listing,
-) -> Result<List<u8>, Trouble> {
-    if !files.has("input") {
-        return files.bytes(alloc, folder, "stdin");
-    }
-    let written = files.text(alloc, folder, "input")?;
-    let cell = match written.as_str().strip_suffix('\n') {
-        Some(line) => cell_of(alloc, line)?,
-        None => cell_of(alloc, written.as_str())?,
-    };
-    Ok(List::from_vec(cell.as_bytes().to_vec(alloc)?))
 }
 
 fn run_once<S: Source>(alloc: Global, run: &mut Run, input: &mut S) -> Status {
@@ -177,41 +160,27 @@ fn run_counted<S: Source, L: Ledger>(
     )
 }
 
-fn status_alike<F: Folder>(
+fn status_alike(
     alloc: Global,
-    folder: &mut F,
-    files: &Listing,
+    files: &Files,
     name: &str,
     status: Status,
     tally: &mut Tally,
 ) -> Result<bool, Trouble> {
     let code = status.code();
     let found = format!(in alloc; "{code}")?;
-    if !files.has("status") {
-        return Ok(tally.compare(name, ": status", b"0", found.as_bytes())?);
-    }
-    let wanted = files.text(alloc, folder, "status")?;
-    let wanted = wanted.as_str().trim();
+    let wanted = if files.has("status") {
+        files.text("status")?.trim()
+    } else {
+        "0"
+    };
     Ok(tally.compare(name, ": status", wanted.as_bytes(), found.as_bytes())?)
 }
 
-fn err_alike<F: Folder>(
-    alloc: Global,
-    folder: &mut F,
-    files: &Listing,
-    name: &str,
-    taken: &[u8],
-    tally: &mut Tally,
-) -> Result<bool, Trouble> {
-    let wanted = files.bytes(alloc, folder, "err")?;
-    Ok(tally.compare(name, ": err", wanted.as_slice(), taken)?)
-}
-
 // What standard output takes, or what it takes for each of some namespaces.
-fn out_alike<F: Folder>(
+fn out_alike(
     alloc: Global,
-    folder: &mut F,
-    files: &Listing,
+    files: &Files,
     name: &str,
     taken: &[u8],
     tally: &mut Tally,
@@ -222,22 +191,19 @@ fn out_alike<F: Folder>(
         if let Some(namespace) = file.as_str().strip_prefix("out.only-") {
             is_shared = true;
             let lines = lines_of(alloc, taken, namespace)?;
-            let wanted = files.bytes(alloc, folder, file.as_str())?;
-            is_alike = tally.compare(name, ": out.only", wanted.as_slice(), lines.as_slice())?
-                && is_alike;
+            let wanted = files.bytes(file.as_str());
+            is_alike = tally.compare(name, ": out.only", wanted, lines.as_slice())? && is_alike;
         }
     }
     if !is_shared || files.has("out") {
-        let wanted = files.bytes(alloc, folder, "out")?;
-        is_alike = tally.compare(name, ": out", wanted.as_slice(), taken)? && is_alike;
+        is_alike = tally.compare(name, ": out", files.bytes("out"), taken)? && is_alike;
     }
     Ok(is_alike)
 }
 
 // The lines that begin with the namespace and a tab.
 fn lines_of(alloc: Global, taken: &[u8], namespace: &str) -> Result<Vec<u8>, Trouble> {
-    let mut front = String::from_str(alloc, namespace)?;
-    front.push('\t')?;
+    let front = format!(in alloc; "{namespace}\t")?;
     let mut lines = Vec::new(alloc);
     for line in taken.split(|b| *b == b'\n') {
         if line.starts_with(front.as_bytes()) {

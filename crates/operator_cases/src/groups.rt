@@ -1,111 +1,95 @@
 use crate::case::run_case;
-use crate::listing::Listing;
+use crate::files::{Disk, Files, names_in, path_in};
 use op_base::Text;
-use op_edges::{Folder, Sink, put_all};
+use op_edges::{StdSink, put_all};
 use operator_tables::{Call, Tally, Trouble, judge_table, store_of};
 use srv_store::Store;
 use std::alloc::Global;
+use std::io::Stdout;
+
+/// Standard output.
+pub type Out = StdSink<Stdout>;
 
 /// Runs all cases and tables of the folder `root`, says of each group and table how many are alike, and
 /// answers whether all are.
-pub fn run_all<F: Folder, O: Sink>(
-    alloc: Global,
-    folder: &mut F,
-    out: &mut O,
-    root: &str,
-) -> Result<bool, Trouble> {
-    let root = Listing::open(alloc, folder, Text::from_str(alloc, root)?)?;
-    if !root.has("cases") && !root.has("tables") {
-        return Err(Trouble::Unreadable("it has neither cases nor tables"));
-    }
+pub fn run_all(alloc: Global, disk: &mut Disk, out: &mut Out, root: &str) -> Result<bool, Trouble> {
+    let is_alike = run_groups(alloc, disk, out, path_in(alloc, root, "cases")?.as_str())?;
+    Ok(run_calls(alloc, disk, out, path_in(alloc, root, "tables")?.as_str())? && is_alike)
+}
+
+fn run_groups(alloc: Global, disk: &mut Disk, out: &mut Out, dir: &str) -> Result<bool, Trouble> {
+    let groups = names_in(alloc, disk, dir)?;
     let mut is_alike = true;
-    if root.has("cases") {
-        let groups = root.open_in(alloc, folder, "cases")?;
-        is_alike = run_groups(alloc, folder, out, &groups)?;
-    }
-    if root.has("tables") {
-        let calls = root.open_in(alloc, folder, "tables")?;
-        is_alike = run_calls(alloc, folder, out, &calls)? && is_alike;
+    for group in groups.as_slice() {
+        let mut tally = Tally::new(alloc, group.clone()?);
+        run_group(alloc, disk, dir, group.as_str(), &mut tally)?;
+        is_alike = say(out, tally)? && is_alike;
     }
     Ok(is_alike)
 }
 
-fn run_groups<F: Folder, O: Sink>(
+fn run_group(
     alloc: Global,
-    folder: &mut F,
-    out: &mut O,
-    groups: &Listing,
-) -> Result<bool, Trouble> {
-    let mut is_alike = true;
-    for name in groups.names.as_slice() {
-        let cases = groups.open_in(alloc, folder, name.as_str())?;
-        let mut tally = Tally::new(alloc, Text::from_str(alloc, name.as_str())?);
-        run_group(alloc, folder, &cases, &mut tally)?;
-        is_alike = tally.is_alike() && is_alike;
-        say(out, tally)?;
-    }
-    Ok(is_alike)
-}
-
-fn run_group<F: Folder>(
-    alloc: Global,
-    folder: &mut F,
-    cases: &Listing,
+    disk: &mut Disk,
+    dir: &str,
+    group: &str,
     tally: &mut Tally,
 ) -> Result<(), Trouble> {
-    for name in cases.names.as_slice() {
-        let files = cases.open_in(alloc, folder, name.as_str())?;
-        let outcome = run_case(alloc, folder, &files, name.as_str(), tally);
+    let dir = path_in(alloc, dir, group)?;
+    let names = names_in(alloc, disk, dir.as_str())?;
+    for name in names.as_slice() {
+        let outcome = run_case(alloc, disk, dir.as_str(), name.as_str(), tally);
         tally.count(name.as_str(), outcome)?;
     }
     Ok(())
 }
 
-fn say<O: Sink>(out: &mut O, tally: Tally) -> Result<(), Trouble> {
-    let text = tally.into_text()?;
-    put_all(out, text.as_bytes())?;
-    Ok(())
+// Says how many are alike, and answers whether all are.
+fn say(out: &mut Out, mut tally: Tally) -> Result<bool, Trouble> {
+    tally.close()?;
+    put_all(out, tally.text().as_bytes())?;
+    Ok(tally.is_alike())
 }
 
-fn run_calls<F: Folder, O: Sink>(
-    alloc: Global,
-    folder: &mut F,
-    out: &mut O,
-    calls: &Listing,
-) -> Result<bool, Trouble> {
+fn run_calls(alloc: Global, disk: &mut Disk, out: &mut Out, dir: &str) -> Result<bool, Trouble> {
+    let names = names_in(alloc, disk, dir)?;
     let mut is_alike = true;
-    for name in calls.names.as_slice() {
-        let Some(call) = Call::of_name(name.as_str()) else {
-            return Err(Trouble::Unreadable("a folder of tables has the name of no call"));
-        };
-        let tables = calls.open_in(alloc, folder, name.as_str())?;
-        let entries = tables.text(alloc, folder, "store")?;
-        let store = store_of(alloc, entries.as_str())?;
-        is_alike = run_tables(alloc, folder, out, &tables, call, &store, name.as_str())?
-            && is_alike;
+    for name in names.as_slice() {
+        is_alike = run_call(alloc, disk, out, dir, name.as_str())? && is_alike;
     }
     Ok(is_alike)
 }
 
-fn run_tables<F: Folder, O: Sink>(
+fn run_call(
     alloc: Global,
-    folder: &mut F,
-    out: &mut O,
-    tables: &Listing,
+    disk: &mut Disk,
+    out: &mut Out,
+    dir: &str,
+    name: &str,
+) -> Result<bool, Trouble> {
+    let Some(call) = Call::of_name(name) else {
+        return Err(Trouble::Unreadable("a folder of tables has the name of no call"));
+    };
+    let tables = Files::read(alloc, disk, path_in(alloc, dir, name)?.as_str())?;
+    let store = store_of(alloc, tables.text("store")?)?;
+    run_tables(alloc, out, &tables, call, &store, name)
+}
+
+fn run_tables(
+    alloc: Global,
+    out: &mut Out,
+    tables: &Files,
     call: Call,
     store: &Store,
     folder_name: &str,
 ) -> Result<bool, Trouble> {
     let mut is_alike = true;
-    for name in tables.names.as_slice() {
-        if name.as_str() != "store" {
-            let table = name.as_str();
-            let title = format!(in alloc; "{folder_name}/{table}")?;
+    for table in tables.names.as_slice() {
+        if table.as_str() != "store" {
+            let title = path_in(alloc, folder_name, table.as_str())?;
             let mut tally = Tally::new(alloc, Text::from_string(title));
-            let rows = tables.text(alloc, folder, table)?;
-            judge_table(alloc, call, store, rows.as_str(), &mut tally)?;
-            is_alike = tally.is_alike() && is_alike;
-            say(out, tally)?;
+            judge_table(alloc, call, store, tables.text(table.as_str())?, &mut tally)?;
+            is_alike = say(out, tally)? && is_alike;
         }
     }
     Ok(is_alike)

@@ -8,8 +8,8 @@
 
 mod case;
 mod faults;
+mod files;
 mod groups;
-mod listing;
 mod manifests;
 mod source_again;
 

@@ -1,35 +1,38 @@
-use crate::listing::Listing;
+use crate::files::{Disk, FOLDER, Files, bytes_of, names_in, path_in};
 use op_base::{List, Text};
-use op_edges::{Folder, MemFolder};
+use op_edges::MemFolder;
 use operator_tables::{Trouble, cells_of, is_row, number_of};
 use std::alloc::Global;
 
-/// The folder of a case's manifests, whose calls of these numbers fail.
-pub fn manifests_of<F: Folder>(
+/// Puts the manifests of a case into the folder `DIR`.
+pub fn put_manifests(
     alloc: Global,
-    folder: &mut F,
-    files: &Listing,
-    fails: List<u64>,
-) -> Result<MemFolder, Trouble> {
-    let mut manifests = MemFolder::new(alloc, fails);
-    manifests.make("DIR")?;
-    if files.has("folder") {
-        let written = files.open_in(alloc, folder, "folder")?;
-        put_files(alloc, folder, &written, &mut manifests)?;
-    }
-    let more = files.text(alloc, folder, "more")?;
-    put_more(alloc, more.as_str(), &mut manifests)?;
-    Ok(manifests)
-}
-
-fn put_files<F: Folder>(
-    alloc: Global,
-    folder: &mut F,
-    written: &Listing,
+    disk: &mut Disk,
+    case: &str,
+    files: &Files,
     manifests: &mut MemFolder,
 ) -> Result<(), Trouble> {
-    for name in written.names.as_slice() {
-        let bytes = written.bytes(alloc, folder, name.as_str())?;
+    manifests.make("DIR")?;
+    if files.has(FOLDER) {
+        put_files(
+            alloc,
+            disk,
+            path_in(alloc, case, FOLDER)?.as_str(),
+            manifests,
+        )?;
+    }
+    put_more(alloc, files.text("more")?, manifests)
+}
+
+fn put_files(
+    alloc: Global,
+    disk: &mut Disk,
+    dir: &str,
+    manifests: &mut MemFolder,
+) -> Result<(), Trouble> {
+    let names = names_in(alloc, disk, dir)?;
+    for name in names.as_slice() {
+        let bytes = bytes_of(alloc, disk, dir, name.as_str())?;
         manifests.put("DIR", name.as_str(), bytes)?;
     }
     Ok(())
@@ -38,8 +41,7 @@ fn put_files<F: Folder>(
 fn put_more(alloc: Global, rows: &str, manifests: &mut MemFolder) -> Result<(), Trouble> {
     for row in rows.lines() {
         if is_row(row) {
-            let cells = cells_of(alloc, row)?;
-            put_row(alloc, cells.as_slice(), manifests)?;
+            put_row(alloc, cells_of(alloc, row)?.as_slice(), manifests)?;
         }
     }
     Ok(())
@@ -48,41 +50,27 @@ fn put_more(alloc: Global, rows: &str, manifests: &mut MemFolder) -> Result<(), 
 fn put_row(alloc: Global, cells: &[Text], manifests: &mut MemFolder) -> Result<(), Trouble> {
     match cells {
         [count, name, text] => {
-            let count = number_of(count.as_str())?;
-            put_copies(alloc, count, name.as_str(), text.as_str(), manifests)
+            for before in 0..number_of(count.as_str())? {
+                put_copy(alloc, before, name.as_str(), text.as_str(), manifests)?;
+            }
+            Ok(())
         }
         _ => Err(Trouble::Unreadable("a row of more has three cells")),
     }
 }
 
-fn put_copies(
+// Puts the copy that so many stand before, with its number in place of each `#`.
+fn put_copy(
     alloc: Global,
-    count: u64,
+    before: u64,
     name: &str,
     text: &str,
     manifests: &mut MemFolder,
 ) -> Result<(), Trouble> {
-    for before in 0..count {
-        let copy = before.saturating_add(1);
-        let number = format!(in alloc; "{copy:04}")?;
-        let name = numbered(alloc, name, number.as_str())?;
-        let text = numbered(alloc, text, number.as_str())?;
-        let bytes = List::from_vec(text.as_bytes().to_vec(alloc)?);
-        manifests.put("DIR", name.as_str(), bytes)?;
-    }
+    let copy = before.saturating_add(1);
+    let number = format!(in alloc; "{copy:04}")?;
+    let name = name.replace(alloc, '#', number.as_str())?;
+    let text = text.replace(alloc, '#', number.as_str())?;
+    manifests.put("DIR", name.as_str(), List::from_vec(text.into_bytes()))?;
     Ok(())
-}
-
-// The text with the number in place of each `#`.
-fn numbered(alloc: Global, text: &str, number: &str) -> Result<Text, Trouble> {
-    let mut whole = Text::new(alloc);
-    let mut is_first = true;
-    for piece in text.split('#') {
-        if !is_first {
-            whole.push_str(number)?;
-        }
-        is_first = false;
-        whole.push_str(piece)?;
-    }
-    Ok(whole)
 }

@@ -34,7 +34,8 @@ impl Tally {
             Ok(false) => self.different = self.different.saturating_add(1),
             Err(Trouble::Unreadable(why)) => {
                 self.different = self.different.saturating_add(1);
-                self.say_line(name, ": ", why)?;
+                self.say_name(name, ": ")?;
+                self.say_line(why)?;
             }
             Err(Trouble::NoMemory) => return Err(NoMemory),
         }
@@ -52,17 +53,30 @@ impl Tally {
         let Some(at) = place_of(wanted, found) else {
             return Ok(true);
         };
-        let place = format!(in self.alloc; " differs at byte {at}")?;
-        self.say_line(name, what, place.as_str())?;
+        self.say_name(name, what)?;
+        self.said.push_str(" differs at byte ")?;
+        self.say_number(at as u64)?;
+        self.say_line("")?;
         self.say_side("  wanted: ", wanted, at)?;
         self.say_side("  found:  ", found, at)?;
         Ok(false)
     }
 
-    fn say_line(&mut self, name: &str, what: &str, rest: &str) -> Result<(), NoMemory> {
-        let group = self.name.as_str();
-        let line = format!(in self.alloc; "{group}/{name}{what}{rest}\n")?;
-        self.said.push_str(line.as_str())
+    fn say_name(&mut self, name: &str, what: &str) -> Result<(), NoMemory> {
+        self.said.push_str(self.name.as_str())?;
+        self.said.push_str("/")?;
+        self.said.push_str(name)?;
+        self.said.push_str(what)
+    }
+
+    fn say_number(&mut self, number: u64) -> Result<(), NoMemory> {
+        push_number(self.alloc, &mut self.said, number)
+    }
+
+    // Ends the line with this.
+    fn say_line(&mut self, rest: &str) -> Result<(), NoMemory> {
+        self.said.push_str(rest)?;
+        self.said.push_str("\n")
     }
 
     fn say_side(&mut self, side: &str, bytes: &[u8], at: usize) -> Result<(), NoMemory> {
@@ -73,7 +87,7 @@ impl Tally {
         for b in bytes.iter().skip(at).take(SHOWN) {
             push_byte(self.alloc, &mut self.said, *b)?;
         }
-        self.said.push_str("\n")
+        self.say_line("")
     }
 
     /// Whether all are alike.
@@ -81,24 +95,30 @@ impl Tally {
         self.different == 0
     }
 
-    /// What is said of those that differ, and how many are alike.
-    pub fn into_text(self) -> Result<Text, NoMemory> {
-        let Tally {
-            alloc,
-            name,
-            mut said,
-            alike,
-            different,
-        } = self;
-        let name = name.as_str();
-        let line = if different == 0 {
-            format!(in alloc; "{name}: {alike} alike\n")?
-        } else {
-            format!(in alloc; "{name}: {alike} alike, {different} not\n")?
-        };
-        said.push_str(line.as_str())?;
-        Ok(said)
+    /// Says how many are alike, and how many aren't.
+    pub fn close(&mut self) -> Result<(), NoMemory> {
+        let (alike, different) = (self.alike, self.different);
+        self.said.push_str(self.name.as_str())?;
+        self.said.push_str(": ")?;
+        self.say_number(alike)?;
+        self.said.push_str(" alike")?;
+        if different != 0 {
+            self.said.push_str(", ")?;
+            self.say_number(different)?;
+            self.said.push_str(" not")?;
+        }
+        self.say_line("")
     }
+
+    /// What was said: of those that differ, and once it is closed of how many are alike.
+    pub fn text(&self) -> &str {
+        self.said.as_str()
+    }
+}
+
+/// Pushes the number in decimal.
+pub fn push_number(alloc: Global, text: &mut Text, number: u64) -> Result<(), NoMemory> {
+    text.push_str(format!(in alloc; "{number}")?.as_str())
 }
 
 // The place of the first byte that differs.
@@ -120,9 +140,6 @@ fn push_byte(alloc: Global, text: &mut Text, b: u8) -> Result<(), NoMemory> {
         b'\n' => text.push_str("\\n"),
         b'\t' => text.push_str("\\t"),
         32..=126 => text.push(char::from(b)),
-        _ => {
-            let escape = format!(in alloc; "\\x{b:02x}")?;
-            text.push_str(escape.as_str())
-        }
+        _ => text.push_str(format!(in alloc; "\\x{b:02x}")?.as_str()),
     }
 }

@@ -92,13 +92,20 @@ fn shown_vector(alloc: Global, elements: &List<(Labels, i64)>) -> Result<Text, N
     let mut separator = "";
     for element in elements.as_slice() {
         text.push_str(separator)?;
-        push_labels(&mut text, &element.0)?;
-        text.push_str(" ")?;
-        let value = shown_number(alloc, element.1)?;
-        text.push_str(value.as_str())?;
+        push_element(alloc, &mut text, &element.0, element.1)?;
         separator = "; ";
     }
     Ok(text)
+}
+
+fn push_element(
+    alloc: Global,
+    text: &mut Text,
+    labels: &Labels,
+    value: i64,
+) -> Result<(), NoMemory> {
+    push_labels(text, labels)?;
+    text.push_str(format!(in alloc; " {value}")?.as_str())
 }
 
 fn shown_number(alloc: Global, value: i64) -> Result<Text, NoMemory> {
@@ -107,8 +114,12 @@ fn shown_number(alloc: Global, value: i64) -> Result<Text, NoMemory> {
 
 fn shown_clash(alloc: Global, these: &Labels, those: &Labels) -> Result<Text, NoMemory> {
     let mut text = Text::from_str(alloc, "!Clash ")?;
-    push_labels(&mut text, these)?;
-    text.push_str(" ")?;
-    push_labels(&mut text, those)?;
+    push_both(&mut text, these, those)?;
     Ok(text)
+}
+
+fn push_both(text: &mut Text, these: &Labels, those: &Labels) -> Result<(), NoMemory> {
+    push_labels(text, these)?;
+    text.push_str(" ")?;
+    push_labels(text, those)
 }

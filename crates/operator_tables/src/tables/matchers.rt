@@ -19,7 +19,8 @@ pub fn found(alloc: Global, given: &[Text]) -> Result<Text, Trouble> {
 
 // The matcher is read as the one of a selector without a name.
 fn judged(alloc: Global, matcher: &str, labels: &Labels) -> Result<&'static str, Trouble> {
-    let selector = format!(in alloc; "{{{matcher}}}")?;
+    let mut selector = said(alloc, "{", matcher)?;
+    selector.push_str("}")?;
     match parse(alloc, selector.as_str()) {
         Ok(expr) => judged_tree(alloc, &expr, labels),
         Err(ParseFault::NotExpr) => no_matcher(),

@@ -1,3 +1,4 @@
+use crate::compare::push_number;
 use crate::tables::misfit;
 use crate::trouble::Trouble;
 use op_base::{NoMemory, Text};
@@ -28,14 +29,23 @@ fn listed(alloc: Global, found: &[Token]) -> Result<Text, NoMemory> {
     let mut all = Text::new(alloc);
     let mut separator = "";
     for token in found {
-        let letter = letter_of(token.kind);
-        let start = token.start;
-        let end = token.end;
-        let piece = format!(in alloc; "{separator}{letter}{start}-{end}")?;
-        all.push_str(piece.as_str())?;
+        push_token(alloc, &mut all, token, separator)?;
         separator = " ";
     }
     Ok(all)
+}
+
+fn push_token(
+    alloc: Global,
+    text: &mut Text,
+    token: &Token,
+    separator: &str,
+) -> Result<(), NoMemory> {
+    text.push_str(separator)?;
+    text.push_str(letter_of(token.kind))?;
+    push_number(alloc, text, token.start as u64)?;
+    text.push_str("-")?;
+    push_number(alloc, text, token.end as u64)
 }
 
 fn letter_of(kind: TokenKind) -> &'static str {
