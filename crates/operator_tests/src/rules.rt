@@ -2,7 +2,7 @@
 
 use crate::things::{is_so, label, list_of, text};
 use cfg_types::{Group, Rule, RuleFile};
-use op_base::{List, Moment, NoMemory, Tags};
+use op_base::{List, METRIC_NAME, Moment, NoMemory, Tags};
 use ql_tree::Expr;
 use srv_rule::{RuleStates, round};
 use srv_store::{Entry, Store};
@@ -39,7 +39,7 @@ fn files(alloc: Global) -> Result<List<RuleFile>, NoMemory> {
 fn filled(alloc: Global) -> Result<Store, NoMemory> {
     let mut store = Store::new(alloc);
     store.add(Entry {
-        labels: label(alloc, "__name__", "up")?,
+        labels: label(alloc, METRIC_NAME, "up")?,
         at: Moment(0),
         value: Some(1),
     })?;

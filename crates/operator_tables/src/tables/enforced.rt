@@ -1,6 +1,6 @@
 use crate::tables::{misfit, said};
 use crate::trouble::Trouble;
-use op_base::{NoMemory, Text};
+use op_base::{NAMESPACE_LABEL, NoMemory, Text};
 use ql_parse::{ParseFault, parse};
 use ql_rewrite::{EnforceFault, enforce, print};
 use ql_tree::Expr;
@@ -34,7 +34,7 @@ fn strictness_of(word: &str) -> Result<bool, Trouble> {
 }
 
 fn enforced_tree(alloc: Global, expr: &Expr, is_strict: bool) -> Result<Text, NoMemory> {
-    match enforce(alloc, expr, "namespace", "a", is_strict) {
+    match enforce(alloc, expr, NAMESPACE_LABEL, "a", is_strict) {
         Ok(enforced) => print(alloc, &enforced),
         Err(EnforceFault::Conflict(matcher)) => said(alloc, "!", matcher.value.as_str()),
         Err(EnforceFault::NoMemory) => Err(NoMemory),

@@ -1,12 +1,10 @@
 ghost use Rattle.std.specs.Prelude.{◌<◌, length};
 
 use crate::trouble::Trouble;
-use op_base::{Labels, NoMemory, Text};
+use op_base::{Labels, METRIC_NAME, NoMemory, Text};
 use std::alloc::Global;
 
 // The label that holds the name of the metric.
-const METRIC: &str = "__name__";
-
 /// The label set that cells `NAME=VALUE` spell.
 pub fn labels_of(alloc: Global, cells: &[Text]) -> Result<Labels, Trouble> {
     let mut labels = Labels::new(alloc);
@@ -24,7 +22,7 @@ pub fn push_labels(text: &mut Text, labels: &Labels) -> Result<(), NoMemory> {
     if labels.len() == 0 {
         return text.push_str("{}");
     }
-    if let Some(metric) = labels.get(METRIC) {
+    if let Some(metric) = labels.get(METRIC_NAME) {
         text.push_str(metric)?;
     }
     let is_open = push_others(text, labels)?;
@@ -48,7 +46,7 @@ fn push_label(
 ) -> Result<bool, NoMemory>
     requires { index < length labels.now }
 {
-    if labels.name_at(index) == METRIC {
+    if labels.name_at(index) == METRIC_NAME {
         return Ok(false);
     }
     text.push_str(if is_open { "," } else { "{" })?;
