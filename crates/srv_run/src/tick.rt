@@ -7,7 +7,7 @@ use cfg_types::{Config, Job};
 use op_base::{Labels, List, Moment, NoMemory};
 use srv_rule::{FailedRule, RuleStates, next_round};
 use srv_scrape::{Pages, scrape_all, tick_entries};
-use srv_store::Store;
+use srv_store::{Entry, Store};
 use std::alloc::Global;
 
 /// Scrapes everything at the moment and then runs all rules. Answers the label sets that the scrapes
