@@ -2,11 +2,12 @@
 use Rattle.std.proofs.Common.{◌≡◌, ℕ, Bool, true, false, ◌&&◌, List, [], ◌∷◌, ◌++◌, length, ◌-◌, nat_le, Result, Ok, Err, IfOk, true≢false, refl, subst, sym, ap, ◌∙◌, append_assoc, arith}
 use Rattle.std.specs.List.{list_all}
 use Rattle.op_base.specs.Names.{is_namespace, is_part, is_part_byte, is_lower_or_digit, passes_at}
-use Rattle.op_edges.specs.Lines.{IsClean}
+use Rattle.op_edges.specs.Lines.{IsClean, newline}
 use Rattle.op_edges.proofs.LineLemmas.{clean_append}
 use Rattle.op_json.specs.Json.{json_text}
 use Rattle.op_report.specs.declared.view.View.{View}
-use Rattle.op_report.specs.Lines.{TAB, NEWLINE, view_json, line_of, IsOneLine}
+use Rattle.op_report.specs.declared.line.TheConstants.{TAB}
+use Rattle.op_report.specs.Lines.{view_json, line_of, IsOneLine}
 use Rattle.op_report.proofs.CleanLemmas.{json_clean}
 
 pub both_so : (s t : Bool) → (s && t) ≡ true → (s ≡ true) × (t ≡ true)
@@ -33,7 +34,7 @@ pub one_line : (to : List ℕ) (view : View) → IsClean to → IsOneLine (line_
 unfolding IsOneLine
 one_line to view clean = (
   to ++ TAB ∷ json_text (view_json view),
-  sym (append_assoc to (TAB ∷ json_text (view_json view)) (NEWLINE ∷ [])),
+  sym (append_assoc to (TAB ∷ json_text (view_json view)) (newline ∷ [])),
   clean_append to (TAB ∷ json_text (view_json view)) clean (omega arith, json_clean (view_json view)),
 )
 

@@ -4,12 +4,13 @@ use Rattle.std.specs.List.{list_all}
 use Rattle.std.proofs.lemmas.Slice.Eq.{bytes_eq-Decides}
 use Rattle.std.proofs.lemmas.List.Elements.{filter-append}
 use Rattle.op_base.specs.Names.{is_namespace, is_part_byte}
-use Rattle.op_edges.specs.Lines.{IsClean, lines_of}
+use Rattle.op_edges.specs.Lines.{IsClean, lines_of, newline}
 use Rattle.op_edges.proofs.LineLemmas.{clean_append, lines_front}
 use Rattle.op_json.specs.Json.{json_text}
 use Rattle.op_report.specs.declared.view.Report.{Report}
 use Rattle.op_report.specs.declared.view.View.{View}
-use Rattle.op_report.specs.Lines.{TAB, NEWLINE, view_json, line_of, address_of}
+use Rattle.op_report.specs.declared.line.TheConstants.{TAB}
+use Rattle.op_report.specs.Lines.{view_json, line_of, address_of}
 use Rattle.op_report.specs.ReadBack.{is_for, views_for, report_bytes, bytes_of, begins, line_text, AreNamed, IsReadBack, IsLastLine}
 use Rattle.op_report.proofs.CleanLemmas.{json_clean}
 use Rattle.op_report.proofs.LineLemmas.{both_so, namespace_parts, namespace_clean}
@@ -59,18 +60,18 @@ text_clean : (to : List ℕ) (view : View) → IsClean to → IsClean (line_text
 text_clean to view clean = clean_append to (TAB ∷ json_text (view_json view)) clean (omega arith, json_clean (view_json view))
 
 -- what stands behind a line
-line_then : (to : List ℕ) (view : View) (more : List ℕ) → line_of to view ++ more ≡ line_text to view ++ NEWLINE ∷ more
+line_then : (to : List ℕ) (view : View) (more : List ℕ) → line_of to view ++ more ≡ line_text to view ++ newline ∷ more
 line_then to view more =
-    append_assoc to (TAB ∷ (json_text (view_json view) ++ NEWLINE ∷ [])) more
-    ∙ ap (λ l. to ++ TAB ∷ l) (append_assoc (json_text (view_json view)) (NEWLINE ∷ []) more)
-    ∙ sym (append_assoc to (TAB ∷ json_text (view_json view)) (NEWLINE ∷ more))
+    append_assoc to (TAB ∷ (json_text (view_json view) ++ newline ∷ [])) more
+    ∙ ap (λ l. to ++ TAB ∷ l) (append_assoc (json_text (view_json view)) (newline ∷ []) more)
+    ∙ sym (append_assoc to (TAB ∷ json_text (view_json view)) (newline ∷ more))
 
 -- all lines: one of each report, and the last one
 pub lines_of_reports : (reports : List Report) (last : List ℕ) → AreNamed reports → IsClean last
     → lines_of (bytes_of reports last) ≡ map report_text reports ++ last ∷ []
 lines_of_reports [] last named clean = lines_front last [] clean
 lines_of_reports (report ∷ reports) last named clean =
-    ap lines_of (append_assoc (line_of (address_of report.to) report.view) (report_bytes reports) (last ++ NEWLINE ∷ [])
+    ap lines_of (append_assoc (line_of (address_of report.to) report.view) (report_bytes reports) (last ++ newline ∷ [])
     ∙ line_then (address_of report.to) report.view (bytes_of reports last))
     ∙ lines_front (report_text report) (bytes_of reports last)
     (text_clean (address_of report.to) report.view (address_clean report.to named.0))

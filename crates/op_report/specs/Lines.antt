@@ -2,8 +2,9 @@
 use Rattle.std.specs.Prelude.{ℕ, pos, Bool, true, false, List, [], ◌∷◌, ◌++◌, map, Option, Some, None, ◌≡◌, ◌==◌, ◌&&◌, ◌||◌, option_map, codes}
 use Rattle.std.specs.List.{list_all}
 use Rattle.std.specs.Cmp.Lexicographic.{pointwise}
-use Rattle.op_edges.specs.Lines.{IsClean}
+use Rattle.op_edges.specs.Lines.{IsClean, newline}
 use Rattle.op_json.specs.Json.{Json, text, whole, array_of, object_of, given, json_text}
+use Rattle.op_report.specs.declared.line.TheConstants.{TAB}
 use Rattle.op_report.specs.declared.view.Also.{Also}
 use Rattle.op_report.specs.declared.view.Report.{Report}
 use Rattle.op_report.specs.declared.view.View.{View}
@@ -62,17 +63,9 @@ view_json (NotYetLine line) = object_of ((codes "bad", text (codes "NotYet")) �
 view_json (NotYetFile file item) = object_of
     ((codes "bad", text (codes "NotYet")) ∷ (codes "file", text file) ∷ (codes "item", whole (pos item)) ∷ [])
 
--- what stands behind the addressee of a line
-abbrev pub TAB : ℕ
-TAB = 9
-
--- the byte that ends a line
-abbrev pub NEWLINE : ℕ
-NEWLINE = 10
-
 -- a line: its addressee, a tab, the value and a newline
 abbrev pub line_of : List ℕ → View → List ℕ
-line_of to view = to ++ TAB ∷ (json_text (view_json view) ++ NEWLINE ∷ [])
+line_of to view = to ++ TAB ∷ (json_text (view_json view) ++ newline ∷ [])
 
 -- the line for a namespace
 abbrev pub tenant_line : List ℕ → View → List ℕ
@@ -93,7 +86,7 @@ report_line report = line_of (address_of report.to) report.view
 
 -- one whole line: no newline stands in it but its last byte
 unfoldable pub IsOneLine : List ℕ → Type 0
-IsOneLine line = (text : List ℕ) × (line ≡ text ++ NEWLINE ∷ []) × IsClean text
+IsOneLine line = (text : List ℕ) × (line ≡ text ++ newline ∷ []) × IsClean text
 
 -- an answer that leaves nothing refused or skipped
 abbrev pub is_good : List ℕ → Bool

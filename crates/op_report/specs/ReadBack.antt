@@ -2,11 +2,12 @@
 -- what was said to it, and the last line is what stands behind the reports.
 use Rattle.std.specs.Prelude.{◌≡◌, ℕ, Bool, true, false, List, [], ◌∷◌, ◌++◌, map, filter, flat_map, bytes_eq, ◌==◌, ◌&&◌, Option, Some, None, IfSome}
 use Rattle.op_base.specs.Names.{is_namespace}
-use Rattle.op_edges.specs.Lines.{IsClean, lines_of}
+use Rattle.op_edges.specs.Lines.{IsClean, lines_of, newline}
 use Rattle.op_json.specs.Json.{json_text}
 use Rattle.op_report.specs.declared.view.Report.{Report}
 use Rattle.op_report.specs.declared.view.View.{View}
-use Rattle.op_report.specs.Lines.{TAB, NEWLINE, view_json, report_line}
+use Rattle.op_report.specs.declared.line.TheConstants.{TAB}
+use Rattle.op_report.specs.Lines.{view_json, report_line}
 
 -- the report is for the namespace
 abbrev pub is_for : List ℕ → Option (List ℕ) → Bool
@@ -23,7 +24,7 @@ report_bytes reports = flat_map report_line reports
 
 -- the lines of reports, and a last line behind them
 abbrev pub bytes_of : List Report → List ℕ → List ℕ
-bytes_of reports last = report_bytes reports ++ (last ++ NEWLINE ∷ [])
+bytes_of reports last = report_bytes reports ++ (last ++ newline ∷ [])
 
 -- the line begins with the name and a TAB
 abbrev pub begins : List ℕ → List ℕ → Bool

@@ -14,6 +14,9 @@ use op_json::{push_item, put_field, put_text, put_text_if, text_of};
 use serde_json::{Map, Value, json};
 use std::alloc::Global;
 
+// What stands behind the addressee of a line.
+const TAB: u8 = b'\t';
+
 /// The line that says the view to a tenant.
 pub fn tenant_line(alloc: Global, namespace: &str, view: &View) -> Result<List<u8>, NoMemory>
     requires { is_namespace namespace.now ≡ true }
@@ -49,7 +52,7 @@ fn line_of(alloc: Global, to: &str, view: &View) -> Result<List<u8>, NoMemory>
     let value = view_value(alloc, view)?;
     let text = text_of(alloc, &value)?;
     let mut line = Vec::from_slice(alloc, to.as_bytes())?;
-    line.push(b'\t')?;
+    line.push(TAB)?;
     line.extend_from_slice(text.as_slice())?;
     line.push(b'\n')?;
     Ok(List::from_vec(line))

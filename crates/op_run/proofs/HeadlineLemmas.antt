@@ -13,12 +13,12 @@ use Rattle.cfg_types.specs.Written.{config_json}
 use Rattle.op_thin.specs.Compiled.{config_of}
 use Rattle.op_thin.proofs.NamedLemmas.{named}
 use Rattle.tenant_world.specs.Events.{ReadEvent, HaveNames, given}
-use Rattle.tenant_world.specs.Runs.{beginning}
+use Rattle.tenant_world.specs.Runs.{beginning, left_by}
 use Rattle.tenant_world.proofs.EventLaws.{isolated}
 use Rattle.op_run.specs.declared.files.NamedFile.{NamedFile}
 use Rattle.op_run.specs.Inputs.{file_events, line_events, events_from, events_of}
 use Rattle.op_run.specs.Headline.{Headline}
-use Rattle.op_run.specs.Outputs.{present, final_text, run_reports, run_text}
+use Rattle.op_run.specs.Outputs.{final_text, run_reports, run_text}
 use Rattle.op_run.proofs.NamedRunLemmas.{run_named}
 
 names-append : (xs ys : List ReadEvent) → HaveNames xs → HaveNames ys → HaveNames (xs ++ ys)
@@ -49,7 +49,7 @@ events_names files bytes =
 
 -- the text of the objects present is one line
 final_clean : (events : List ReadEvent) → IsClean (final_text events)
-final_clean events = json_clean (config_json (config_of (present events)))
+final_clean events = json_clean (config_json (config_of (left_by beginning events).objects))
 
 -- the value is an object
 abbrev IsObject : json.Json → Type 0
@@ -70,7 +70,7 @@ object_begins (json.object fs) is = json_object_begins fs
 
 -- it begins with its brace
 final_begins : (events : List ReadEvent) → BeginsObject (final_text events)
-final_begins events = object_begins (config_json (config_of (present events))) tt
+final_begins events = object_begins (config_json (config_of (left_by beginning events).objects)) tt
 
 -- what a run writes to its end has the lines of each tenant's own world, and the configuration as its last line
 pub headline : (files : List NamedFile) (bytes : List ℕ) (before now : Option (List ℕ))

@@ -3,10 +3,11 @@ use Rattle.std.specs.Prelude.{ℕ, List, [], ◌∷◌, Bool, length, nat_eq, su
 use Rattle.std.specs.List.{flat_map, ends_with}
 use Rattle.op_edges.specs.Folders.{Folders, names_of, file_of}
 use Rattle.op_run.specs.declared.files.NamedFile.{NamedFile}
+use Rattle.op_run.specs.declared.files.TheConstants.{MOST_FILE_BYTES}
 
 -- the most bytes that the files may have together
 abbrev pub most_file_bytes : ℕ
-most_file_bytes = 67108864
+most_file_bytes = MOST_FILE_BYTES
 
 -- the name of a manifest's file
 abbrev pub is_manifest_name : List ℕ → Bool

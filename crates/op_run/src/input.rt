@@ -7,18 +7,19 @@ ghost use Rattle.op_report.specs.ReadBack.{AreNamed, report_bytes};
 ghost use Rattle.tenant_world.specs.Runs as world;
 ghost use Rattle.op_input.specs.Lines.{IsWithin};
 ghost use Rattle.op_input.specs.Shapes.{rule_text};
-ghost use Rattle.srv_run.specs.Served.{late, reports_of, served_after};
+ghost use Rattle.srv_run.specs.Served.{late, page_report, with_page};
 ghost use Rattle.op_run.specs.Lines as spec;
 ghost use Rattle.op_run.specs.WellAnswered.{all_well};
 ghost use Rattle.op_run.specs.Stops.{IsWriting};
 
 use crate::reports::write_reports;
 use crate::stop::Stop;
-use op_base::{List, Moment, NoMemory};
+use op_base::{List, Moment, NoMemory, Text};
 use op_edges::{Line, Sink};
 use op_input::{InputLine, Shape, is_blank, read_line};
 use op_report::{Report, View};
 use srv_run::{Event, EventFault, Server};
+use srv_scrape::Sample;
 use std::alloc::Global;
 
 /// Says what the whole line of that number gives.
@@ -103,23 +104,24 @@ fn take_input(
     ensures named { IfOk result AreNamed }
 {
     match line {
-        InputLine::Page { url, samples } => take_page(Event::Page(url, samples), server),
+        InputLine::Page { url, samples } => take_page(url, samples, server),
         InputLine::Tick(t) => take_tick(alloc, number, t, server),
         InputLine::NotYet => to_all(alloc, View::NotYetLine { line: number }),
         InputLine::Bad(shape) => bad_line(alloc, number, shape),
     }
 }
 
-fn take_page(event: Event, server: &mut Server) -> Result<List<Report>, NoMemory>
-    requires { (url : _) × (samples : _) × (event ≡ Event.Page url samples) }
-    ensures reports { IfOk result (λ reports. reports
-        ≡ reports_of server.old.config server.old.served event) }
-    ensures served { OnOk result (server.new.served
-        ≡ served_after server.old.config server.old.served event) }
+fn take_page(
+    url: Text,
+    samples: Option<List<Sample>>,
+    server: &mut Server,
+) -> Result<List<Report>, NoMemory>
+    ensures reports { IfOk result (λ reports. reports ≡ page_report url ∷ []) }
+    ensures served { OnOk result (server.new.served ≡ with_page server.old.served url samples) }
     ensures config { OnOk result (server.new.config ≡ server.old.config) }
     ensures named { IfOk result AreNamed }
 {
-    match server.event(&event) {
+    match server.event(Event::Page(url, samples)) {
         Ok(reports) => Ok(reports),
         Err(EventFault::NoMemory) => Err(NoMemory),
         Err(EventFault::LateTick(_)) => unreachable!(),
@@ -140,7 +142,7 @@ fn take_tick(
     ensures config { OnOk result (server.new.config ≡ server.old.config) }
     ensures named { IfOk result AreNamed }
 {
-    match server.event(&Event::Tick(t)) {
+    match server.event(Event::Tick(t)) {
         Ok(reports) => Ok(reports),
         Err(EventFault::LateTick(last)) => to_all(alloc, View::LateTick { last, line: number }),
         Err(EventFault::NoMemory) => Err(NoMemory),

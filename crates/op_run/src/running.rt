@@ -3,16 +3,17 @@ ghost use Rattle.std.specs.Io.KnownBytes.{Appends};
 ghost use Rattle.op_edges.specs.Causes.{Rose};
 ghost use Rattle.op_edges.specs.Told.{Told};
 ghost use Rattle.op_edges.specs.Streams.{AppendsPrefix};
-ghost use Rattle.op_edges.specs.Lines.{most_bytes, shown_lines};
-ghost use Rattle.op_report.specs.Lines.{NEWLINE};
+ghost use Rattle.op_edges.specs.Lines.{most_bytes, shown_lines, newline};
 ghost use Rattle.op_report.specs.ReadBack.{report_bytes};
 ghost use Rattle.cfg_types.specs.Written.{config_text};
 ghost use Rattle.op_thin.specs.Compiled.{config_of};
-ghost use Rattle.srv_run.specs.Served.{new_serving};
+ghost use Rattle.tenant_world.specs.Runs.{run};
+ghost use Rattle.op_run.specs.Inputs.{events_of};
 ghost use Rattle.op_run.specs.InputRuns.{InputRan, RunCauses};
 ghost use Rattle.op_run.specs.Lines.{all_said};
-ghost use Rattle.op_run.specs.Outputs.{run_reports, run_text};
+ghost use Rattle.op_run.specs.Outputs.{run_reports, run_text, run_text_after};
 ghost use Rattle.op_run.specs.WellAnswered.{all_well};
+ghost use Rattle.op_run.specs.Worlds.{world};
 
 use crate::configuration::configuration;
 use crate::files::NamedFile;
@@ -70,27 +71,31 @@ fn files_and_input<S: Source, O: Sink>(
         (O.faults out.old) (O.faults out.new) }
 {
     match Server::new(alloc) {
-        Ok(mut server) => run_both(alloc, files, &mut server, input, out),
+        Ok(mut server) => {
+            let objects = Objects::new(alloc);
+            run_after(alloc, files, objects, &mut server, input, out)
+        }
         Err(NoMemory) => Err(Stop::Memory),
     }
 }
 
-// The same, over a server that was told nothing.
-fn run_both<S: Source, O: Sink>(
+// The same, over objects and a server that stand already.
+fn run_after<S: Source, O: Sink>(
     alloc: Global,
     files: &[NamedFile],
+    objects: Objects,
     server: &mut Server,
     input: &mut S,
     out: &mut O,
 ) -> Result<bool, Stop>
-    requires { server.old ≡ new_serving }
-    ensures ran { Told (S.left input.old) (S.left input.new) (λ bytes after.
-        InputRan result (run_text files.now bytes) (all_well (run_reports files.now bytes))
+    ensures ran { Told (S.left input.old) (S.left input.new) (λ bytes after. InputRan result
+        (run_text_after (world objects server.old.served) files.now bytes)
+        (all_well (run (world objects server.old.served) (events_of files.now bytes)))
         (O.taken out.old) (O.taken out.new) bytes after) }
     ensures causes { RunCauses result (S.faults input.old) (S.faults input.new)
         (O.faults out.old) (O.faults out.new) }
 {
-    let mut objects = Objects::new(alloc);
+    let mut objects = objects;
     match report_files(alloc, files, &mut objects, server, out) {
         Ok(good) => match run_configured(alloc, objects, server, input, out) {
             Ok(well) => Ok(both(good, well)),
@@ -110,7 +115,7 @@ fn run_configured<S: Source, O: Sink>(
 ) -> Result<bool, Stop>
     ensures ran { Told (S.left input.old) (S.left input.new) (λ bytes after. InputRan result
         (report_bytes (all_said (config_of objects) server.old.served 0 (shown_lines bytes)) ++
-        (config_text (config_of objects) ++ NEWLINE ∷ []))
+        (config_text (config_of objects) ++ newline ∷ []))
         (all_well (all_said (config_of objects) server.old.served 0 (shown_lines bytes)))
         (O.taken out.old) (O.taken out.new) bytes after) }
     ensures causes { RunCauses result (S.faults input.old) (S.faults input.new)
@@ -125,7 +130,7 @@ fn run_configured<S: Source, O: Sink>(
 // Loads the configuration of the objects. Answers its text with a newline.
 fn load(alloc: Global, objects: Objects, server: &mut Server) -> Result<List<u8>, NoMemory>
     ensures server { OnOk result (server.new ≡ record server.old { config = config_of objects }) }
-    ensures text { IfOk result (λ text. text ≡ config_text (config_of objects) ++ NEWLINE ∷ []) }
+    ensures text { IfOk result (λ text. text ≡ config_text (config_of objects) ++ newline ∷ []) }
 {
     let (config, text) = configuration(alloc, objects)?;
     server.load(config)?;

@@ -1,9 +1,8 @@
 -- The configuration of the objects present, made from them alone. Until settings are read, every
 -- object is selected and enforced with the label `namespace`.
-use Rattle.std.specs.Prelude.{ℕ, pos, List, [], ◌∷◌, Option, false, codes, map, option_map}
+use Rattle.std.specs.Prelude.{ℕ, List, [], ◌∷◌, Option, false, codes, map, option_map}
 use Rattle.std.specs.List.{filter_map}
 use Rattle.op_base.specs.declared.label_names.TheConstants.{NAMESPACE_LABEL}
-use Rattle.op_base.specs.declared.span.Span.{Span}
 use Rattle.op_relabel.specs.declared.step.Step.{Step}
 use Rattle.op_relabel.specs.Steps.{copy_step, put_step}
 use Rattle.cfg_types.specs.declared.config.Config.{Config}
@@ -14,6 +13,7 @@ use Rattle.cfg_types.specs.declared.config.Rule.{Rule}
 use Rattle.cfg_types.specs.declared.job.Job.{Job}
 use Rattle.ql_tree.specs.Enforced.{enforced}
 use Rattle.ql_tree.specs.declared.tree.Expr.{Expr}
+use Rattle.op_thin.specs.declared.compiled.TheConstants.{INTERVAL, TIMEOUT}
 use Rattle.op_thin.specs.declared.recording.Recording.{Recording}
 use Rattle.op_thin.specs.declared.rule.ThinRule.{ThinRule}
 use Rattle.op_thin.specs.declared.probe.ThinProbe.{ThinProbe}
@@ -54,14 +54,6 @@ probe_steps probe =
     ∷ put_step (codes "__address__") probe.url
     ∷ enforced_step probe.namespace
     ∷ []
-
--- the spans of the settings that stand: 30 seconds between scrapes and between rounds, 10 for a scrape
-abbrev pub INTERVAL : Span
-INTERVAL = record { 0 = pos 30000 }
-
--- ten seconds
-abbrev pub TIMEOUT : Span
-TIMEOUT = record { 0 = pos 10000 }
 
 -- the job of a probe
 abbrev pub job_of : ThinProbe → Job

@@ -7,6 +7,7 @@ use Rattle.op_thin.specs.declared.rule.ThinRule.{ThinRule}
 use Rattle.op_thin.specs.declared.probe.ThinProbe.{ThinProbe}
 use Rattle.op_thin.specs.declared.item.Item.{Item}
 use Rattle.op_thin.specs.declared.item.Item.TheVariants.{Broken, NotYet, Rule, Probe}
+use Rattle.op_thin.specs.declared.objects.TheConstants.{MOST_OBJECTS}
 
 -- the rules and the probes, each by namespace and then by name
 pub record Present : Type 0 where
@@ -18,8 +19,8 @@ abbrev pub nothing : Present
 nothing = record { rules = []; probes = [] }
 
 -- how many objects a namespace may have
-abbrev pub MOST_OBJECTS : ℕ
-MOST_OBJECTS = 1000
+abbrev pub most_objects : ℕ
+most_objects = MOST_OBJECTS
 
 -- the objects of one kind in a namespace, by their names
 abbrev pub inner_at : {X : Type 0} → Map (Map X) → List ℕ → Map X
@@ -27,7 +28,7 @@ inner_at objects namespace = unwrap_or (value_at objects namespace) []
 
 -- a key is there, or its namespace, with so many objects, isn't full
 abbrev pub fits : Bool → ℕ → Bool
-fits there count = there || nat_lt count MOST_OBJECTS
+fits there count = there || nat_lt count most_objects
 
 -- how many objects a namespace has
 abbrev pub count_in : Present → List ℕ → ℕ

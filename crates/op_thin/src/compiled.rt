@@ -19,6 +19,12 @@ use ql_rewrite::{EnforceFault, enforce};
 use ql_tree::Expr;
 use std::alloc::Global;
 
+// The settings that stand: the time between scrapes and between rounds.
+const INTERVAL: Span = Span(30_000);
+
+// How long a scrape may take.
+const TIMEOUT: Span = Span(10_000);
+
 /// The configuration of the objects present.
 pub fn compile(alloc: Global, objects: Objects) -> Result<Config, NoMemory>
     ensures config { IfOk result (λ config. config ≡ spec.config_of objects) }
@@ -38,10 +44,10 @@ fn prometheus_of(alloc: Global, probes: List<ThinProbe>) -> Result<PromPart, NoM
     ensures { IfOk result (λ part. part ≡ spec.prometheus_of probes) }
 {
     Ok(PromPart {
-        evaluation_interval: Span(30_000),
+        evaluation_interval: INTERVAL,
         external_labels: Tags::new(alloc),
-        scrape_interval: Span(30_000),
-        scrape_timeout: Span(10_000),
+        scrape_interval: INTERVAL,
+        scrape_timeout: TIMEOUT,
         jobs: jobs_of(alloc, probes)?,
     })
 }
@@ -72,8 +78,8 @@ fn probe_job(alloc: Global, probe: &ThinProbe) -> Result<Job, NoMemory>
         metrics_path: Text::from_str(alloc, "/probe")?,
         relabel_configs: probe_steps(alloc, probe)?,
         scheme: Text::from_str(alloc, "http")?,
-        scrape_interval: Span(30_000),
-        scrape_timeout: Span(10_000),
+        scrape_interval: INTERVAL,
+        scrape_timeout: TIMEOUT,
         static_configs: static_config(alloc, probe)?,
     })
 }

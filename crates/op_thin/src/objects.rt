@@ -13,7 +13,7 @@ use std::marker::Model;
 use std::mem::drop;
 
 /// How many objects a namespace may have.
-const MOST_OBJECTS: usize = 1000;
+const MOST_OBJECTS: usize = 1_000;
 
 /// The objects that are present: thin rules and thin probes by namespace and name. The expression of
 /// each rule that is taken is a scalar or a vector.
@@ -99,7 +99,7 @@ impl Objects {
 
     // Whether the namespace isn't full.
     fn has_room(&self, namespace: &str) -> bool
-        ensures { result ≡ nat_lt (spec.count_in self.now namespace.now) spec.MOST_OBJECTS }
+        ensures { result ≡ nat_lt (spec.count_in self.now namespace.now) spec.most_objects }
     {
         both_fit(
             len_at(&self.rules, namespace),
@@ -116,7 +116,7 @@ fn copied(namespace: &Text, name: &Text) -> Result<(Text, Text), NoMemory>
 
 // Whether a namespace with so many rules and so many probes isn't full.
 fn both_fit(rules: usize, probes: usize) -> bool
-    ensures { result ≡ nat_lt (rules + probes) spec.MOST_OBJECTS }
+    ensures { result ≡ nat_lt (rules + probes) spec.most_objects }
 {
     rules < MOST_OBJECTS && probes < MOST_OBJECTS - rules
 }

@@ -1,7 +1,7 @@
 -- What the program ends with, and the text that it writes last for it.
 use Rattle.std.specs.Prelude.{ℕ, List, [], ◌∷◌, ◌++◌, Bool, true, false, codes, if◌then◌else◌}
 use Rattle.op_report.specs.declared.view.Report.{Report}
-use Rattle.op_report.specs.Lines.{NEWLINE}
+use Rattle.op_edges.specs.Lines.{newline}
 use Rattle.op_run.specs.declared.stop.Stop.{Stop}
 use Rattle.op_run.specs.declared.stop.Stop.TheVariants.{Input, Limit, Output, Memory}
 use Rattle.op_run.specs.WellAnswered.{all_well}
@@ -12,12 +12,12 @@ use Rattle.operator_cli.specs.declared.status.Status.TheVariants.{Done, Refused,
 abbrev pub status_text : Status → List ℕ
 status_text Done = []
 status_text Refused = []
-status_text Usage = codes "usage: operator compile DIR [--part PART] | apply DIR [--each] [--part PART] | run DIR" ++ NEWLINE ∷ []
-status_text InputFault = codes "fault: input" ++ NEWLINE ∷ []
-status_text FolderFault = codes "fault: folder" ++ NEWLINE ∷ []
-status_text OutputFault = codes "fault: output" ++ NEWLINE ∷ []
-status_text InputLimit = codes "limit: input" ++ NEWLINE ∷ []
-status_text NoMemory = codes "memory" ++ NEWLINE ∷ []
+status_text Usage = codes "usage: operator compile DIR [--part PART] | apply DIR [--each] [--part PART] | run DIR" ++ newline ∷ []
+status_text InputFault = codes "fault: input" ++ newline ∷ []
+status_text FolderFault = codes "fault: folder" ++ newline ∷ []
+status_text OutputFault = codes "fault: output" ++ newline ∷ []
+status_text InputLimit = codes "limit: input" ++ newline ∷ []
+status_text NoMemory = codes "memory" ++ newline ∷ []
 
 -- all was read to its end and written
 abbrev pub is_ended : Status → Bool

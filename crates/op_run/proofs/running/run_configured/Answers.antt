@@ -1,8 +1,7 @@
 use Rattle.std.proofs.Common.{◌∙◌, ◌++◌, ◌∷◌, [], Err, subst}
-use Rattle.op_edges.specs.Lines.{shown_lines}
+use Rattle.op_edges.specs.Lines.{shown_lines, newline}
 use Rattle.op_edges.specs.Told.{Told}
 use Rattle.op_edges.proofs.ToldLemmas.{told_same}
-use Rattle.op_report.specs.Lines.{NEWLINE}
 use Rattle.op_report.specs.ReadBack.{report_bytes}
 use Rattle.cfg_types.specs.Written.{config_text}
 use Rattle.op_thin.specs.Compiled.{config_of}
@@ -32,11 +31,11 @@ returns-in-Ok-clause-causes g c = c.run_loaded.ensures.causes
 pub returns-in-Err-clause-ran : goal.returns-in-Err-clause-ran
 returns-in-Err-clause-ran g c = told_same (g.S.Source.left c.args.input.now)
     (λ bytes after. InputRan (Err Memory)
-    (report_bytes (all_said (config_of c.args.objects) c.args.server.now.served 0 (shown_lines bytes)) ++ (config_text (config_of c.args.objects) ++ NEWLINE ∷ []))
+    (report_bytes (all_said (config_of c.args.objects) c.args.server.now.served 0 (shown_lines bytes)) ++ (config_text (config_of c.args.objects) ++ newline ∷ []))
     (all_well (all_said (config_of c.args.objects) c.args.server.now.served 0 (shown_lines bytes)))
     (g.O.Sink.taken c.args.out.now) (g.O.Sink.taken c.args.out.now) bytes after)
     (λ bytes. none_ran
-    (report_bytes (all_said (config_of c.args.objects) c.args.server.now.served 0 (shown_lines bytes)) ++ (config_text (config_of c.args.objects) ++ NEWLINE ∷ []))
+    (report_bytes (all_said (config_of c.args.objects) c.args.server.now.served 0 (shown_lines bytes)) ++ (config_text (config_of c.args.objects) ++ newline ∷ []))
     (all_well (all_said (config_of c.args.objects) c.args.server.now.served 0 (shown_lines bytes)))
     (g.O.Sink.taken c.args.out.now) bytes)
 
