@@ -1,6 +1,6 @@
 -- An ordered map of the library is looked up, filled and ordered as the list of entries that it shows is. Of a key
 -- it shows `key_shown`.
-use Rattle.std.proofs.Common.{◌≡◌, Bool, List, [], ◌∷◌, ◌++◌, map, None, Some, cond, unwrap_or, refl, ap, sym, subst, ◌∙◌}
+use Rattle.std.proofs.Common.{◌≡◌, ◌-◌, Bool, List, [], ◌∷◌, ◌++◌, length, map, MatchOption, Option, None, Some, cond, slice_get, take, unwrap_or, refl, ap, sym, subst, ◌∙◌, arith}
 use Rattle.std.specs.declared.cmp.Ordering.{Ordering}
 use Rattle.std.specs.declared.cmp.Ordering.TheVariants.{Less, Equal, Greater}
 use Rattle.std.specs.Ordering.{is_eq, match_ordering}
@@ -12,7 +12,10 @@ use Rattle.std.specs.List.{AllByRecursion}
 use Rattle.std.specs.List.Sorted.{IsStrictlySortedBy}
 use Rattle.std.specs.Map.{lookup, set_value}
 use Rattle.std.proofs.lemmas.Map.Steps.{set_value_same}
-use Rattle.op_base.specs.Maps.{keys_of, IsOrdered, with_member}
+use Rattle.std.specs.Option.{option_map_or}
+use Rattle.std.proofs.Math.Seq.{take-append_seam}
+use Rattle.std.proofs.lemmas.List.{length_push}
+use Rattle.op_base.specs.Maps.{keys_of, IsOrdered, last_member, with_member, without_last}
 
 -- what is shown of entries
 abbrev pub shown : {K Q X : Type 0} → (K → Q) → List (K × X) → List (Q × X)
@@ -140,3 +143,41 @@ module _ {K X : Type 0} (R : K → K → Ordering) where
   first_member key member w es m between new seen same absent pushed is =
       is ∙ ap (put R key w) same
       ∙ ap (λ l. put R key l m) (pushed ∙ ap (λ found. unwrap_or found [] ++ member ∷ []) (absent ∙ own_found R key es m seen))
+
+-- the last thing at a key is taken
+module _ {K X : Type 0} (R : K → K → Ordering) where
+  shorter : (taken : Option X) (v w : List X) → MatchOption taken ((v ≡ []) × (w ≡ [])) (λ last. v ≡ w ++ last ∷ [])
+      → (taken ≡ slice_get v (length v - 1)) × (w ≡ take (length v - 1) v)
+  shorter None v w none = (ap (λ v. slice_get v (length v - 1)) (sym none.0), none.1 ∙ ap (λ v. take (length v - 1) v) (sym none.0))
+  shorter (Some last) v w is =
+      let count : length w ≡ length (w ++ last ∷ []) - 1 = omega (arith, length_push w last) in (
+        sym (slice_get_append w last) ∙ ap (slice_get (w ++ last ∷ [])) count ∙ ap (λ v. slice_get v (length v - 1)) (sym is),
+        sym (take-append_seam w (last ∷ [])) ∙ ap (λ n. take n (w ++ last ∷ [])) count ∙ ap (λ v. take (length v - 1) v) (sym is),
+      )
+    where
+      slice_get_append : (w : List X) (last : X) → slice_get (w ++ last ∷ []) (length w) ≡ Some last
+      slice_get_append [] last = refl
+      slice_get_append (x ∷ w) last = slice_get_append w last
+
+  -- through a reference to those that stand there
+  pub member_taken : (key : K) (taken : Option X) (v w : List X) (es m : List (K × List X)) → es ≡ m → Some v ≡ lookup (λ k. is_eq (R key k)) es
+      → MatchOption taken ((v ≡ []) × (w ≡ [])) (λ last. v ≡ w ++ last ∷ []) → taken ≡ last_member R m key
+  member_taken key taken v w es m seen there popped =
+      (shorter taken v w popped).0
+      ∙ ap (λ found. slice_get (unwrap_or found []) (length (unwrap_or found []) - 1)) (there ∙ own_found R key es m seen)
+
+  pub member_gone : IsTotalOrder R → (key : K) (taken : Option X) (v w : List X) (es new m : List (K × List X)) → es ≡ m → IsOrdered R es
+      → Some v ≡ lookup (λ k. is_eq (R key k)) es → new ≡ set_value (λ k. is_eq (R key k)) es w
+      → MatchOption taken ((v ≡ []) × (w ≡ [])) (λ last. v ≡ w ++ last ∷ []) → new ≡ without_last R m key
+  member_gone o key taken v w es new m seen rises there is popped =
+      own_refilled R o key v w es new m seen rises there is
+      ∙ ap (λ l. put R key l m) (shorter taken v w popped).1
+      ∙ ap (λ found. option_map_or (λ members. put R key (take (length members - 1) members) m) found m) (there ∙ own_found R key es m seen)
+
+  -- where none stands there
+  pub none_taken : (key : K) (es m : List (K × List X)) → es ≡ m → None ≡ lookup (λ k. is_eq (R key k)) es → None ≡ last_member R m key
+  none_taken key es m seen absent = ap (λ found. slice_get (unwrap_or found []) (length (unwrap_or found []) - 1)) (absent ∙ own_found R key es m seen)
+
+  pub none_gone : (key : K) (es new m : List (K × List X)) → es ≡ m → new ≡ m → None ≡ lookup (λ k. is_eq (R key k)) es → new ≡ without_last R m key
+  none_gone key es new m seen same absent =
+      same ∙ ap (λ found. option_map_or (λ members. put R key (take (length members - 1) members) m) found m) (absent ∙ own_found R key es m seen)

@@ -3,7 +3,7 @@
 -- `finite.find R key entries` is the value at a key, and `finite.put R key value entries` the map with the value at
 -- the key, over any that stood there. Each `OrderedMap` keeps that its keys rise, and so does each `Table`, whose
 -- keys are texts in the order of their bytes.
-use Rattle.std.specs.Prelude.{ℕ, List, [], ◌∷◌, ◌++◌, Option, String, fold, map, not, string_bytes, unwrap_or}
+use Rattle.std.specs.Prelude.{ℕ, ◌-◌, List, [], ◌∷◌, ◌++◌, Option, String, fold, length, map, not, slice_get, string_bytes, take, unwrap_or}
 use Rattle.std.specs.declared.alloc.Global.{Global}
 use Rattle.std.specs.declared.cmp.Ordering.{Ordering}
 use Rattle.std.specs.BTreeMap.{BTreeMap}
@@ -12,6 +12,7 @@ use Rattle.std.specs.Cmp.Lexicographic.{slice_cmp}
 use Rattle.std.specs.FinMap as finite
 use Rattle.std.specs.FinMap.Entries.{where_key}
 use Rattle.std.specs.List.Sorted.{IsStrictlySortedBy}
+use Rattle.std.specs.Option.{option_map_or}
 
 -- the keys in order
 abbrev pub keys_of : {K X : Type 0} → List (K × X) → List K
@@ -32,6 +33,15 @@ members_at R entries key = unwrap_or (finite.find R key entries) []
 -- one thing more at a key, behind those that stand there
 abbrev pub with_member : {K X : Type 0} → (K → K → Ordering) → List (K × List X) → K → X → List (K × List X)
 with_member R entries key member = finite.put R key (members_at R entries key ++ member ∷ []) entries
+
+-- the last of the things at a key
+abbrev pub last_member : {K X : Type 0} → (K → K → Ordering) → List (K × List X) → K → Option X
+last_member R entries key = let members = members_at R entries key in slice_get members (length members - 1)
+
+-- a map without the last of the things at a key
+abbrev pub without_last : {K X : Type 0} → (K → K → Ordering) → List (K × List X) → K → List (K × List X)
+without_last R entries key =
+    option_map_or (λ members. finite.put R key (take (length members - 1) members) entries) (finite.find R key entries) entries
 
 -- further things, one after the other, each at its own key
 abbrev pub with_members : {K X : Type 0} → (K → K → Ordering) → (X → K) → List (K × List X) → List X → List (K × List X)

@@ -93,6 +93,17 @@ impl<K: Ord, X> OrderedMap<K, List<X>> {
             None => &[],
         }
     }
+
+    /// Takes the last of the things at the key, if there is one.
+    pub fn pop(&mut self, key: &K) -> Option<X>
+        ensures last { result ≡ spec.last_member K.cmp self.old key.now }
+        ensures rest { self.new ≡ spec.without_last K.cmp self.old key.now }
+    {
+        match self.entries.get_mut(key) {
+            Some(members) => members.pop(),
+            None => None,
+        }
+    }
 }
 
 impl<K: Ord + Drop, X: Drop> OrderedMap<K, List<X>> {

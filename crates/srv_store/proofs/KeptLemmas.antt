@@ -260,6 +260,10 @@ numbered_known keys runs labels number distinct is =
       same_runs = λ n. refl;
     }
 
+-- what holds of a value that was answered
+pub told_ok : {V E : Type 0} (r : Result V E) (v : V) (P : V → Type 0) → r ≡ Ok v → IfOk r P → P v
+told_ok r v P is holds = subst (λ r. IfOk r P) is holds
+
 -- ---- an entry is taken, or refused
 pub kept_same : (keys new_keys : List Texts) (runs new_runs : List Run) (log : List Addition) → IsKept keys runs log → new_keys ≡ keys → new_runs ≡ runs → IsKept new_keys new_runs log
 kept_same keys new_keys runs new_runs log k same_keys same_runs =

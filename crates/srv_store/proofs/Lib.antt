@@ -10,5 +10,6 @@ mod LatestLemmas
 mod SelectedLemmas
 mod RangedLemmas
 mod IndexLemmas
+mod CandidateLemmas
 pub mod RisingLemmas
 pub mod RisingEntries

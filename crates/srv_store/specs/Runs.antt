@@ -130,10 +130,6 @@ abbrev pub IsComplete : List Texts → List Matcher → List ℕ → Type 0
 IsComplete keys matchers numbers =
     (n : ℕ) → n < length keys → all_hold matchers (key_at keys n) ≡ true → list_any (nat_eq n) numbers ≡ true
 
--- each number below another
-abbrev pub IsEachBelow : ℕ → List ℕ → Type 0
-IsEachBelow count numbers = (n : ℕ) → n < count → list_any (nat_eq n) numbers ≡ true
-
 -- the numbers so far by their label sets, with one at a label set where the matchers hold on that
 abbrev pub with_held : List Matcher → LabelMap ℕ → Texts → ℕ → LabelMap ℕ
 with_held matchers found labels n = if all_hold matchers labels then with_value found labels n else found

@@ -1,7 +1,6 @@
 -- Stores of samples: lists of entries, and their filters. After Prometheus on staleness.
 use Rattle.std.specs.Prelude.{◌≡◌, ℕ, ℤ, List, [], ◌∷◌, ◌++◌, Bool, true, ◌&&◌, Option, Some, None, filter, fold, is_some, map, int_le, int_lt, if◌then◌else◌, bytes_eq}
 use Rattle.std.specs.Cmp.Lexicographic.{pointwise}
-use Rattle.std.specs.FinMap as finite
 use Rattle.std.specs.List.{list_all, list_any, flat_map}
 use Rattle.std.specs.declared.cmp.Ordering.{Ordering}
 use Rattle.std.specs.Ordering.{int_cmp, on, then_cmp}

@@ -57,9 +57,9 @@ fn new_number(
     ensures runs { OnErr result (runs.new.items ≡ runs.old.items) }
 {
     runs.reserve(1)?;
-    let count = keys.len();
-    list_labels(alloc, index, &labels, count)?;
-    let (number, _is_new) = keys.insert_full(labels)?;
+    keys.reserve(1)?;
+    list_labels(alloc, index, &labels, keys.len())?;
+    let (number, _is_new) = keys.insert_full(labels).unwrap();
     runs.push(Run::new(alloc)).unwrap();
     Ok(number)
 }

@@ -1,31 +1,41 @@
 // The index of a store: for each label the numbers of the label sets that have it.
-ghost use Rattle.std.specs.Prelude.{◌≡◌, ◌⊎◌, [], IfOk, IfSome, OnOk};
-ghost use Rattle.op_base.specs.Labels.{labels_with};
+ghost use Rattle.std.specs.Prelude.{◌≡◌, ℕ, [], IfOk, OnOk, OnErr};
+ghost use Rattle.op_base.specs.Labels.{labels_cmp, labels_with};
+ghost use Rattle.op_base.specs.Maps.{with_member};
 ghost use Rattle.srv_store.specs.Indexes as spec;
 
 use crate::map::LabelMap;
-use op_base::{Labels, List, MatchOp, Matcher, NoMemory};
+use op_base::{Labels, List, NoMemory};
 use std::alloc::Global;
 
-/// Lists the number at each label of the label set. An error leaves it listed at some of them.
+/// Lists the number at each label of the label set. An error leaves it listed at none.
 pub(crate) fn list_labels(
     alloc: Global,
     index: &mut LabelMap<List<usize>>,
     labels: &Labels,
     number: usize,
 ) -> Result<(), NoMemory>
-    ensures grows { spec.IsLonger index.old index.new }
-    ensures ok { OnOk result (spec.AreListed index.new labels.now number) }
+    ensures ok { OnOk result (spec.ListsLabels index.old index.new labels.now number) }
+    ensures err { OnErr result (spec.ListsSame index.old index.new) }
 {
-    for place in 0..labels.len() {
-        let label = label_of(alloc, labels.name_at(place), labels.value_at(place))?;
-        index.add(alloc, label, number)?;
-    }
-    Ok(())
+    let singles = single_labels(alloc, labels)?;
+    let _rising = labels.len();
+    list_each(alloc, index, singles.as_slice(), number)
 }
 
-// The label as a label set of its own.
-fn label_of(alloc: Global, name: &str, value: &str) -> Result<Labels, NoMemory>
+// The labels, each as a label set of its own.
+fn single_labels(alloc: Global, labels: &Labels) -> Result<List<Labels>, NoMemory>
+    ensures { IfOk result (λ singles. singles ≡ spec.single_labels labels.now) }
+{
+    let mut singles = List::new(alloc);
+    for place in 0..labels.len() {
+        singles.push(label_of(alloc, labels.name_at(place), labels.value_at(place))?)?;
+    }
+    Ok(singles)
+}
+
+/// The label as a label set of its own.
+pub(crate) fn label_of(alloc: Global, name: &str, value: &str) -> Result<Labels, NoMemory>
     ensures { IfOk result (λ label. label ≡ labels_with [] name.now value.now) }
 {
     let mut label = Labels::new(alloc);
@@ -33,66 +43,45 @@ fn label_of(alloc: Global, name: &str, value: &str) -> Result<Labels, NoMemory>
     Ok(label)
 }
 
-/// The shortest of the lists that have all label sets on which the matchers hold, where there is one:
-/// that of a label that a matcher asks for.
-pub(crate) fn shortest<'a>(
+fn list_each(
     alloc: Global,
-    index: &'a LabelMap<List<usize>>,
-    matchers: &List<Matcher>,
-) -> Result<Option<&'a [usize]>, NoMemory>
-    ensures { IfOk result (λ found. IfSome found (λ numbers. spec.Covers index.now matchers.now numbers.now)) }
+    index: &mut LabelMap<List<usize>>,
+    labels: &[Labels],
+    number: usize,
+) -> Result<(), NoMemory>
+    ensures ok { OnOk result (spec.ListsAt index.old index.new labels.now number) }
+    ensures err { OnErr result (spec.ListsSame index.old index.new) }
 {
-    let mut best: Option<&'a [usize]> = None;
-    for matcher in matchers.as_slice() {
-        best = shorter(best, listed(alloc, index, matcher)?);
-    }
-    Ok(best)
-}
-
-fn shorter<'a>(this: Option<&'a [usize]>, that: Option<&'a [usize]>) -> Option<&'a [usize]>
-    ensures { (result ≡ this.entry) ⊎ (result ≡ that.entry) }
-{
-    match (this, that) {
-        (Some(numbers), Some(others)) => {
-            if others.len() < numbers.len() {
-                that
-            } else {
-                this
+    for place in 0..labels.len() {
+        match list_one(alloc, index, &labels[place], number) {
+            Ok(()) => (),
+            Err(refused) => {
+                unlist(index, &labels[..place]);
+                return Err(refused);
             }
         }
-        (None, _) => that,
-        (_, None) => this,
     }
+    Ok(())
 }
 
-// The list of the label that the matcher asks for, if it asks for one.
-fn listed<'a>(
+fn list_one(
     alloc: Global,
-    index: &'a LabelMap<List<usize>>,
-    matcher: &Matcher,
-) -> Result<Option<&'a [usize]>, NoMemory>
-    ensures { IfOk result (λ found. IfSome found (λ numbers. spec.HasAsked index.now matcher.now numbers.now)) }
+    index: &mut LabelMap<List<usize>>,
+    label: &Labels,
+    number: usize,
+) -> Result<(), NoMemory>
+    ensures ok { OnOk result (index.new ≡ with_member labels_cmp index.old label.now number) }
+    ensures err { OnErr result (index.new ≡ index.old) }
 {
-    match matcher.op {
-        MatchOp::Eq => asked(alloc, index, matcher),
-        _ => Ok(None),
-    }
+    index.add(alloc, label.copy()?, number)
 }
 
-fn asked<'a>(
-    alloc: Global,
-    index: &'a LabelMap<List<usize>>,
-    matcher: &Matcher,
-) -> Result<Option<&'a [usize]>, NoMemory>
-    ensures { matcher.now.op ≡ MatchOp.Eq → IfOk result (λ found. IfSome found (λ numbers.
-        spec.HasAsked index.now matcher.now numbers.now)) }
+// Takes the number back that was listed last at each of the labels.
+fn unlist(index: &mut LabelMap<List<usize>>, labels: &[Labels])
+    ensures { (listed : spec.Index) (n : ℕ) → spec.ListsAt listed index.old labels.now n
+        → spec.ListsSame listed index.new }
 {
-    if matcher.value.is_empty() {
-        return Ok(None);
-    }
-    let label = label_of(alloc, matcher.name.as_str(), matcher.value.as_str())?;
-    match index.get(&label) {
-        Some(numbers) => Ok(Some(numbers.as_slice())),
-        None => Ok(Some(&[])),
+    for label in labels {
+        let _taken = index.pop(label);
     }
 }

@@ -5,6 +5,7 @@
 #![tactic(auto)]
 
 mod addition;
+mod candidates;
 mod entry;
 mod index;
 mod lookups;

@@ -6,16 +6,16 @@ ghost use Rattle.srv_store.specs.Runs as runs_spec;
 ghost use Rattle.srv_store.specs.Stores as spec;
 ghost use Rattle.srv_store.specs.Stores.{point_of};
 
+use crate::candidates::candidates;
 use crate::entry::Entry;
-use crate::index::shortest;
 use crate::map::LabelMap;
 use crate::run::Run;
 use indexmap::IndexSet;
 use op_base::{Labels, List, Matcher, Moment, NoMemory, PreparedMatcher};
 use std::alloc::Global;
 
-/// The numbers of the label sets on which all matchers hold, by the label sets. Where a matcher asks for
-/// a label, only those label sets are looked at that have it.
+/// The numbers of the label sets on which all matchers hold, by the label sets. Only those are looked at
+/// that have all labels that a matcher asks for.
 pub(crate) fn found_runs(
     alloc: Global,
     keys: &IndexSet<Labels>,
@@ -26,32 +26,8 @@ pub(crate) fn found_runs(
     ensures { IfOk result (runs_spec.AreFound keys.now.keys matchers.now) }
 {
     let prepared = prepared(alloc, matchers.as_slice())?;
-    match shortest(alloc, index, matchers)? {
-        Some(numbers) => found_among(alloc, keys, &prepared, numbers),
-        None => found_in_all(alloc, keys, &prepared),
-    }
-}
-
-// The same, where no matcher asks for a label.
-fn found_in_all(
-    alloc: Global,
-    keys: &IndexSet<Labels>,
-    prepared: &List<PreparedMatcher>,
-) -> Result<LabelMap<usize>, NoMemory>
-    ensures { IfOk result (runs_spec.AreFound keys.now.keys prepared.now) }
-{
-    let numbers = all_numbers(alloc, keys.len())?;
-    found_among(alloc, keys, prepared, numbers.as_slice())
-}
-
-fn all_numbers(alloc: Global, count: usize) -> Result<List<usize>, NoMemory>
-    ensures { IfOk result (runs_spec.IsEachBelow count) }
-{
-    let mut numbers = List::new(alloc);
-    for number in 0..count {
-        numbers.push(number)?;
-    }
-    Ok(numbers)
+    let numbers = candidates(alloc, keys, index, matchers.as_slice())?;
+    found_among(alloc, keys, &prepared, numbers.as_slice())
 }
 
 // The same, where the numbers have all label sets on which the matchers hold.
