@@ -99,7 +99,7 @@ same_le x = both_so _ _ (le_itself x) (le_itself x)
     le_itself x = grind (arith, ints)
 
 -- moments that tie are the same
-moment_tie : (this that : Moment) → same_moment this that ≡ eq_by_cmp moment_cmp this that
+pub moment_tie : (this that : Moment) → same_moment this that ≡ eq_by_cmp moment_cmp this that
 moment_tie this that = same_from_decides _ _
     ((λ both. no_apart this.0 that.0 (first_so _ _ both) (second_so _ _ both)), (λ is. ap₂ (λ (x y : ℤ). int_le x y && int_le y x) is refl ∙ same_le that.0))
     (signed_Decides this.0 that.0)

@@ -8,6 +8,7 @@ mod WindowLemmas
 mod MatchLemmas
 mod LatestLemmas
 mod SelectedLemmas
+mod TwinLemmas
 mod RangedLemmas
 mod IndexLemmas
 mod CandidateLemmas

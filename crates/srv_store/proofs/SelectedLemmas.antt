@@ -22,11 +22,11 @@ use Rattle.srv_store.proofs.PlaceLemmas.{test_of, true_of, is_less, is_tied, bot
 use Rattle.srv_store.proofs.KeptLemmas.{number_told, moments_total, run_sorted}
 use Rattle.srv_store.proofs.NewestLemmas.{same_moments}
 
-places_total : IsTotalOrder place_cmp
+pub places_total : IsTotalOrder place_cmp
 places_total = then_total (on_total (λ (place : Place). place.0) labels_total) (on_total (λ (place : Place). place.1.0) int_cmp_total)
 
 -- places that tie are the same
-same_places : (this that : Place) → place_cmp this that ≡ Equal → this ≡ that
+pub same_places : (this that : Place) → place_cmp this that ≡ Equal → this ≡ that
 same_places this that tie = λ i. (
   labels_same this.0 that.0 (first_equal (labels_cmp this.0 that.0) (moment_cmp this.1 that.1) tie) i,
   same_moments this.1 that.1 (second_equal (labels_cmp this.0 that.0) (moment_cmp this.1 that.1) tie) i,
@@ -162,7 +162,7 @@ find_put_all q es (e ∷ entries) =
     find_put_all q (put place_cmp (e.labels, e.at) e es) entries
     ∙ ap (λ o. fold (placed_by q) o entries) (find-put place_cmp places_total q (e.labels, e.at) e es)
 
-sorted_put_all : (es : List (Place × Entry)) (entries : List Entry) → is_sorted place_cmp es ≡ true → is_sorted place_cmp (put_all place_cmp es (map at_place entries)) ≡ true
+pub sorted_put_all : (es : List (Place × Entry)) (entries : List Entry) → is_sorted place_cmp es ≡ true → is_sorted place_cmp (put_all place_cmp es (map at_place entries)) ≡ true
 sorted_put_all es [] sorted = sorted
 sorted_put_all es (e ∷ entries) sorted =
     sorted_put_all (put place_cmp (e.labels, e.at) e es) entries (true_of _ (is_sorted-put place_cmp places_total (e.labels, e.at) e es (test_of sorted)))
@@ -277,7 +277,7 @@ module _ (keys : List Texts) (matchers : List Matcher) (from to : ℤ) where
       (sym (told_read distinct n at.0 holds t runs log k.below (k.last n)))
 
 -- entries that stand at their places
-unplaced : (entries : List Entry) → map entry_at (map at_place entries) ≡ entries
+pub unplaced : (entries : List Entry) → map entry_at (map at_place entries) ≡ entries
 unplaced [] = refl
 unplaced (e ∷ entries) = ap (λ l. e ∷ l) (unplaced entries)
 

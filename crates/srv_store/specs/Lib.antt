@@ -1,4 +1,5 @@
 pub mod LabelMaps
 pub mod Stores
+pub mod StoreLaws
 pub mod Runs
 pub mod Indexes

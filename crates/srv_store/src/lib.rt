@@ -8,6 +8,7 @@ mod addition;
 mod candidates;
 mod entry;
 mod index;
+mod laws;
 mod lookups;
 mod map;
 mod places;
@@ -16,6 +17,7 @@ mod stale;
 mod store;
 
 pub use entry::Entry;
+pub use laws::selected_are_the_window;
 pub use map::LabelMap;
 pub use stale::push_stale;
 pub use store::Store;

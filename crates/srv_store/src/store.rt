@@ -1,4 +1,5 @@
 ghost use Rattle.std.specs.Prelude.{◌≡◌, [], ◌∷◌, ◌++◌, not, length, IfOk, OnOk, OnErr};
+ghost use Rattle.srv_store.specs.StoreLaws.{IsTwinless};
 ghost use Rattle.srv_store.specs.Stores as spec;
 
 use crate::addition::{Addition, add_at, numbered};
@@ -27,13 +28,15 @@ impl Model for Store {
     ghost use Rattle.srv_store.specs.Stores.{Store as Seen};
     ghost use Rattle.srv_store.specs.Runs.{IsKept, entries_of};
     ghost use Rattle.srv_store.specs.Indexes.{IsIndex};
+    ghost use Rattle.srv_store.specs.StoreLaws.{IsTwinless};
 
     ghost Value = { Seen };
 
     ghost view = { λ store. entries_of store.keys.keys store.log.items };
 
     ghost invariant = { λ store. IsKept store.keys.keys store.runs.items store.log.items
-        × IsIndex store.keys.keys store.index };
+        × IsIndex store.keys.keys store.index
+        × IsTwinless (entries_of store.keys.keys store.log.items) };
 }
 
 impl Store {
@@ -50,8 +53,10 @@ impl Store {
         }
     }
 
+    /// How many entries there are. No two of them are of the same labels and moment.
     pub fn len(&self) -> usize
-        ensures { result ≡ length self.now }
+        ensures len { result ≡ length self.now }
+        ensures twinless { IsTwinless self.now }
     {
         self.log.len()
     }
