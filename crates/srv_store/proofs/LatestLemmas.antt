@@ -19,7 +19,7 @@ use Rattle.srv_store.proofs.FlatLemmas.{flat_same}
 use Rattle.srv_store.proofs.NewestLemmas.{newer, newer_added, newest-fold}
 
 -- what stands at a label set, with one entry more
-abbrev newer_at : Texts → Option Entry → Entry → Option Entry
+abbrev pub newer_at : Texts → Option Entry → Entry → Option Entry
 newer_at L found entry = if eq_by_cmp labels_cmp L entry.labels then (if is_newer found entry then Some entry else found) else found
 
 find_newer : (L : Texts) (M : LabelMap Entry) (entry : Entry) → value_of (with_newer M entry) L ≡ newer_at L (value_of M L) entry
@@ -39,7 +39,7 @@ find_newer L M entry =
           ]
     ] refl
 
-find_latest : (L : Texts) (M : LabelMap Entry) (entries : List Entry) → value_of (fold with_newer M entries) L ≡ fold (newer_at L) (value_of M L) entries
+pub find_latest : (L : Texts) (M : LabelMap Entry) (entries : List Entry) → value_of (fold with_newer M entries) L ≡ fold (newer_at L) (value_of M L) entries
 find_latest L M [] = refl
 find_latest L M (e ∷ entries) = find_latest L (with_newer M e) entries ∙ ap (λ found. fold (newer_at L) found entries) (find_newer L M e)
 

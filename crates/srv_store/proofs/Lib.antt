@@ -9,6 +9,7 @@ mod MatchLemmas
 mod LatestLemmas
 mod SelectedLemmas
 mod TwinLemmas
+mod GreatestLemmas
 mod RangedLemmas
 mod IndexLemmas
 mod CandidateLemmas

@@ -17,13 +17,13 @@ abbrev pub labels_of : Entry → Texts
 labels_of entry = entry.labels
 
 -- an entry stands at its labels
-abbrev IsPlaced : Texts × Entry → Type 0
+abbrev pub IsPlaced : Texts × Entry → Type 0
 IsPlaced found = labels_of found.1 ≡ found.0
 
 -- entries that are found, in label order and each at its labels
-record AreFound (found : LabelMap Entry) : Type 0 where
-  sorted : T (is_sorted labels_cmp found)
-  placed : AllByRecursion IsPlaced found
+pub record AreFound (found : LabelMap Entry) : Type 0 where
+  pub sorted : T (is_sorted labels_cmp found)
+  pub placed : AllByRecursion IsPlaced found
 
 found-with_newer : (found : LabelMap Entry) (entry : Entry) → AreFound found → AreFound (with_newer found entry)
 found-with_newer found entry h =
@@ -35,7 +35,7 @@ found-with_newer found entry h =
       | false ↦ h
     ]
 
-found-latest : (entries : List Entry) (found : LabelMap Entry) → AreFound found → AreFound (fold with_newer found entries)
+pub found-latest : (entries : List Entry) (found : LabelMap Entry) → AreFound found → AreFound (fold with_newer found entries)
 found-latest [] found h = h
 found-latest (entry ∷ entries) found h = found-latest entries (with_newer found entry) (found-with_newer found entry h)
 

@@ -48,7 +48,7 @@ tie_back p q apart = ⊎_elim
     (λ (tie : eq_by_cmp place_cmp q p ≡ true). absurd (true≢false (sym (ap is_eq (tied_itself places_total q)) ∙ ap (λ r. eq_by_cmp place_cmp r q) (same_places q p (is_tied _ tie)) ∙ apart)))
     (λ (isnt : eq_by_cmp place_cmp q p ≡ false). isnt) (cases_Bool (eq_by_cmp place_cmp q p))
 
-twin_back : (this that : Entry) → is_twin this that ≡ false → is_twin that this ≡ false
+pub twin_back : (this that : Entry) → is_twin this that ≡ false → is_twin that this ≡ false
 twin_back this that apart = twin_is that this ∙ tie_back (place_of this) (place_of that) (sym (twin_is this that) ∙ apart)
 
 -- ---- a store without twins
@@ -166,7 +166,7 @@ placed_all es [] all = all
 placed_all es (e ∷ entries) all =
     placed_all (put place_cmp (place_of e) e es) entries (all-put place_cmp IsPlaced (place_of e) e es refl (λ other tied. same_places (place_of e) other tied) all)
 
-strictly : {K X : Type 0} (R : K → K → Ordering) (key : X → K) (xs : List X) → Rises R key xs → IsStrictlySortedBy R (map key xs)
+pub strictly : {K X : Type 0} (R : K → K → Ordering) (key : X → K) (xs : List X) → Rises R key xs → IsStrictlySortedBy R (map key xs)
 unfolding IsStrictlySortedBy
 strictly R key [] h = tt
 strictly R key (x ∷ xs) h = (below xs h.0, strictly R key xs h.1)

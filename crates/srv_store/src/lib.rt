@@ -17,7 +17,7 @@ mod stale;
 mod store;
 
 pub use entry::Entry;
-pub use laws::selected_are_the_window;
+pub use laws::{newest_are_latest, selected_are_the_window};
 pub use map::LabelMap;
 pub use stale::push_stale;
 pub use store::Store;
