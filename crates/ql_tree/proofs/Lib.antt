@@ -1,5 +1,6 @@
 pub mod Inherited
 pub mod NodeLemmas
+mod NameLemmas
 mod Rows
 mod ShapeLemmas
 pub mod TokenLemmas

@@ -1,11 +1,14 @@
-ghost use Rattle.std.specs.Prelude.{◌≡◌, bytes_eq};
+ghost use Rattle.std.specs.Prelude.{◌≡◌, ℕ, IfOk, is_none, is_some, bytes_eq};
+ghost use Rattle.std.specs.Prelude as seen;
 ghost use Rattle.std.specs.List.{list_all, list_any};
+ghost use Rattle.op_base.specs.Maps.{value_at};
 ghost use Rattle.ql_tree.specs.Typed as spec;
 
 use crate::shapes::{have_types, text_at};
 use crate::tree::{AggregateOp, BinaryOp, Matching, Side};
 use crate::types::{ExprType, Shape};
-use op_base::{Text, is_label_name};
+use op_base::{NoMemory, Table, Text, is_label_name};
+use std::alloc::Global;
 
 /// What a sign makes of its operand.
 #[tactic(auto, unfolding(crate::specs::Typed::sign_shape))]
@@ -30,13 +33,18 @@ fn takes_scalars(op: BinaryOp, matching: &Option<Matching>) -> bool
     }
 }
 
-fn may_match(op: BinaryOp, matching: &Option<Matching>) -> bool
-    ensures { result ≡ spec.may_match op matching.now }
+fn may_match(alloc: Global, op: BinaryOp, matching: &Option<Matching>) -> Result<bool, NoMemory>
+    ensures { IfOk result (λ may. may ≡ spec.may_match op matching.now) }
 {
     match matching {
-        None => true,
-        Some(m) => !(op.is_set() && has_side(&m.side))
-            && are_apart(m.on, m.labels.as_slice(), &m.side),
+        None => Ok(true),
+        Some(m) => {
+            if op.is_set() && has_side(&m.side) {
+                Ok(false)
+            } else {
+                are_apart(alloc, m.on, m.labels.as_slice(), &m.side)
+            }
+        }
     }
 }
 
@@ -49,51 +57,78 @@ fn has_side(side: &Option<Side>) -> bool
     }
 }
 
-fn are_apart(on: bool, labels: &[Text], side: &Option<Side>) -> bool
-    ensures { result ≡ spec.are_apart on labels.now side.now }
+fn are_apart(
+    alloc: Global,
+    on: bool,
+    labels: &[Text],
+    side: &Option<Side>,
+) -> Result<bool, NoMemory>
+    ensures { IfOk result (λ apart. apart ≡ spec.are_apart on labels.now side.now) }
 {
     match side {
-        None => true,
-        Some(side) => !on || none_among(labels, side.include.as_slice()),
+        None => Ok(true),
+        Some(side) => {
+            if on {
+                none_among(alloc, labels, side.include.as_slice())
+            } else {
+                Ok(true)
+            }
+        }
     }
 }
 
-fn none_among(labels: &[Text], include: &[Text]) -> bool
-    ensures { result ≡ list_all (spec.is_missing labels.now) include.now }
+fn none_among(alloc: Global, labels: &[Text], include: &[Text]) -> Result<bool, NoMemory>
+    ensures { IfOk result (λ none. none ≡ list_all (spec.is_missing labels.now) include.now) }
 {
-    include
-        .iter()
-        .all(|label| !is_among(labels, label.as_str()))
+    let names = names_of(alloc, labels)?;
+    Ok(
+        include
+            .iter()
+            .all(|label| is_missing(&names, label.as_str())),
+    )
 }
 
-fn is_among(labels: &[Text], label: &str) -> bool
-    ensures { result ≡ list_any (bytes_eq label.now) labels.now }
+/// A table with these labels as its names, for look-ups.
+fn names_of(alloc: Global, labels: &[Text]) -> Result<Table<()>, NoMemory>
+    ensures { (name : seen.List ℕ)
+        → IfOk result (λ names. is_some (value_at names name) ≡ list_any (bytes_eq name) labels.now) }
 {
-    labels.iter().any(|other| label == other.as_str())
+    let mut names = Table::new(alloc);
+    for label in labels {
+        names.insert(label.clone()?, ())?;
+    }
+    Ok(names)
+}
+
+fn is_missing(names: &Table<()>, label: &str) -> bool
+    ensures { result ≡ is_none (value_at names.now label.now) }
+{
+    names.get(label).is_none()
 }
 
 /// What a binary operator makes of its operands.
 #[tactic(auto, unfolding(crate::specs::Typed::binary_shape))]
 pub(crate) fn binary(
+    alloc: Global,
     op: BinaryOp,
     boolean: bool,
     matching: &Option<Matching>,
     shapes: &[Shape],
-) -> Option<Shape>
-    ensures { result ≡ spec.binary_shape op boolean matching.now shapes.now }
+) -> Result<Option<Shape>, NoMemory>
+    ensures { IfOk result (λ found. found ≡ spec.binary_shape op boolean matching.now shapes.now) }
 {
     if have_types(shapes, &[ExprType::Scalar, ExprType::Scalar]) {
         if takes_scalars(op, matching) && (boolean || !op.is_comparison()) {
-            Some(Shape::Scalar)
+            Ok(Some(Shape::Scalar))
         } else {
-            None
+            Ok(None)
         }
     } else if one_scalar(shapes) {
-        vector_if(takes_scalars(op, matching))
+        Ok(vector_if(takes_scalars(op, matching)))
     } else if have_types(shapes, &[ExprType::Vector, ExprType::Vector]) {
-        vector_if(may_match(op, matching))
+        Ok(vector_if(may_match(alloc, op, matching)?))
     } else {
-        None
+        Ok(None)
     }
 }
 

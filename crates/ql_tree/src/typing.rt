@@ -157,7 +157,7 @@ fn rule(alloc: Global, expr: &Expr, shapes: &[Shape]) -> Result<Option<Shape>, N
             right,
         } => {
             if left.len() == 1 && right.len() == 1 {
-                Ok(binary(*op, *boolean, matching, shapes))
+                binary(alloc, *op, *boolean, matching, shapes)
             } else {
                 Ok(None)
             }
