@@ -1,7 +1,7 @@
 //! The store of samples: a list of entries, and what is looked up in it.
 //!
-//! `specs/Stores.antt` says what a store takes and what the newest entries are; `LabelMap` is a map
-//! from label sets in label order.
+//! `specs/Stores.antt` says what a store takes and what the newest entries are, and `specs/StoreLaws.antt`
+//! says it without steps; `LabelMap` is a map from label sets in label order.
 #![tactic(auto)]
 
 mod addition;
