@@ -1,5 +1,6 @@
 -- What the nodes come to stands in strict label order.
-use Rattle.std.proofs.Common.{◌≡◌, ℕ, ℤ, pos, Bool, true, false, cond, not, T, List, [], ◌∷◌, ◌++◌, Option, Some, None, drop, filter, fold, map, refl}
+use Rattle.std.proofs.Common.{◌≡◌, ℕ, ℤ, pos, Bool, true, false, cond, not, T, List, [], ◌∷◌, ◌++◌, Option, Some, None, drop, filter, fold, map, Result, IfOk, refl, ap, ◌∙◌}
+use Rattle.std.proofs.lemmas.Result.{IfOk-weaker}
 use Rattle.std.specs.FinMap.Entries.{is_sorted-put}
 use Rattle.std.specs.Int.{int_max, int_min, int_signum}
 use Rattle.std.specs.List.{flat_map}
@@ -33,6 +34,7 @@ use Rattle.ql_call.specs.declared.function.Function.TheVariants as function
 use Rattle.ql_call.specs.declared.function.RangeFunction.{RangeFunction}
 use Rattle.ql_call.specs.declared.operand.Operand.{Operand}
 use Rattle.ql_call.specs.declared.operand.Operand.TheVariants as operand
+use Rattle.ql_call.specs.declared.outcome.Outcome.{Outcome}
 use Rattle.ql_call.specs.declared.outcome.Outcome.TheVariants as outcome
 use Rattle.ql_call.proofs.GroupLemmas.{groups-by-key}
 use Rattle.srv_store.proofs.RisingLemmas.{entries-rise, is_test, rises-entries, rises-filter, rises-map, sorted-put_all, test_is}
@@ -151,7 +153,7 @@ ordered-clamp low high elements =
       | false ↦ ordered-values (between low high) elements
     ]
 
-ordered-call : (f : Function) (t : Moment) (operands : List Operand) → is_ordered (call f t operands) ≡ true
+pub ordered-call : (f : Function) (t : Moment) (operands : List Operand) → is_ordered (call f t operands) ≡ true
 ordered-call function.Abs t operands = ordered-values size_of (elements_at 0 operands)
 ordered-call function.Sgn t operands = ordered-values int_signum (elements_at 0 operands)
 ordered-call function.Absent t operands = ordered-absent (first_of operands)
@@ -171,6 +173,10 @@ ordered-call function.Vector t operands = refl
 ordered-known : (f : Option Function) (t : Moment) (operands : List Operand) → is_ordered (call_known f t operands) ≡ true
 ordered-known None t operands = refl
 ordered-known (Some f) t operands = ordered-call f t operands
+
+-- what a call gives that is known
+pub if-ordered : {E : Type 0} (r : Result Outcome E) (o : Outcome) → is_ordered o ≡ true → IfOk r (λ x. x ≡ o) → IfOk r (λ x. is_ordered x ≡ true)
+if-ordered r o h is = IfOk-weaker r (λ x. x ≡ o) (λ x. is_ordered x ≡ true) (λ x same. ap is_ordered same ∙ h) is
 
 pub nodes-keep-order : NodesKeepOrder
 nodes-keep-order = record {

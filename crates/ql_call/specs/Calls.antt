@@ -13,7 +13,7 @@ use Rattle.ql_call.specs.Functions.{function_of}
 use Rattle.ql_call.specs.LabelCalls.{label_replace, label_join}
 use Rattle.ql_call.specs.Operands.{elements_of, elements_at, scalar_at, text_at, text_of}
 use Rattle.ql_call.specs.Operators.{changed_to, changed_by}
-use Rattle.ql_call.specs.Over.{over, SECOND}
+use Rattle.ql_call.specs.Over.{over, second}
 use Rattle.srv_store.specs.Stores.{Point}
 use Rattle.ql_call.specs.declared.changed.Changed.{Changed}
 use Rattle.ql_call.specs.declared.function.Function.{Function}
@@ -79,7 +79,7 @@ clamp low high elements = if int_lt high low then outcome.Vector [] else each_va
 
 -- a moment in whole seconds, cut towards zero
 abbrev pub seconds_of : Moment → ℤ
-seconds_of t = int_div t.0 SECOND
+seconds_of t = int_div t.0 second
 
 -- each element's moment as its value, where there are moments
 abbrev pub stamped : List Element → List Moment → List Changed

@@ -8,6 +8,7 @@ use Rattle.ql_call.specs.Aggregates.{least, greatest, average}
 use Rattle.ql_call.specs.Elements.{total}
 use Rattle.ql_call.specs.declared.function.RangeFunction.{RangeFunction}
 use Rattle.ql_call.specs.declared.function.RangeFunction.TheVariants.{Avg, Sum, Min, Max, Count, Last, Present, Changes, Resets, Increase, Rate}
+use Rattle.ql_call.specs.declared.over_time.TheConstants.{SECOND}
 
 -- the values of samples
 abbrev pub point_values : List Point → List ℤ
@@ -46,12 +47,12 @@ increase_in (n ∷ []) = pos 0
 increase_in (n ∷ m ∷ numbers) = rise n m +ℤ increase_in (m ∷ numbers)
 
 -- a second, in milliseconds
-abbrev pub SECOND : ℤ
-SECOND = pos 1000
+abbrev pub second : ℤ
+second = SECOND
 
 -- the exact increase times 1000 over the range in milliseconds, cut towards zero
 abbrev pub rate_in : Span → List ℤ → ℤ
-rate_in range numbers = int_div (increase_in numbers *ℤ SECOND) range.0
+rate_in range numbers = int_div (increase_in numbers *ℤ second) range.0
 
 -- `increase` and `rate` need two samples
 abbrev pub of_two : List ℤ → ℤ → Option ℤ

@@ -1,10 +1,11 @@
 // Aggregates of the elements of a vector.
-ghost use Rattle.std.specs.Prelude.{◌≡◌, Some, ◌++◌, ◌∷◌, [], map, IfOk, OnOk};
+ghost use Rattle.std.specs.Prelude.{◌≡◌, true, Some, ◌++◌, ◌∷◌, [], map, IfOk, OnOk};
 ghost use Rattle.std.specs.Fmt.{signed_decimal};
 ghost use Rattle.op_base.specs.Maps.{with_member};
 ghost use Rattle.op_base.specs.Labels.{labels_cmp};
 ghost use Rattle.ql_call.specs.Aggregates as spec;
 ghost use Rattle.ql_call.specs.Elements.{values_in};
+ghost use Rattle.ql_call.specs.Ordered.{is_ordered};
 ghost use Rattle.ql_call.specs.Ranked as ranks;
 ghost use Rattle.ql_call.specs.declared.outcome.Outcome.TheVariants.{Vector};
 
@@ -27,7 +28,8 @@ pub fn aggregate(
     k: &i64,
     elements: &[(Labels, i64)],
 ) -> Result<Outcome, NoMemory>
-    ensures { IfOk result (λ o. o ≡ spec.aggregate op grouping.now label.now k.now elements.now) }
+    ensures value { IfOk result (λ o. o ≡ spec.aggregate op grouping.now label.now k.now elements.now) }
+    ensures ordered { IfOk result (λ o. is_ordered o ≡ true) }
 {
     match op {
         AggregateOp::CountValues => counted_values(alloc, label, grouping, elements),

@@ -1,10 +1,11 @@
 // The calls of functions. All but `last_over_time`, `label_replace` and `label_join` drop the name of
 // what they are given.
-ghost use Rattle.std.specs.Prelude.{◌≡◌, [], ◌∷◌, ◌++◌, drop, IfOk, OnOk};
+ghost use Rattle.std.specs.Prelude.{◌≡◌, true, [], ◌∷◌, ◌++◌, drop, IfOk, OnOk};
 ghost use Rattle.std.specs.Int.{int_max, int_min};
 ghost use Rattle.std.specs.List.{flat_map};
 ghost use Rattle.ql_call.specs.Calls as spec;
 ghost use Rattle.ql_call.specs.Operators.{changed_to};
+ghost use Rattle.ql_call.specs.Ordered.{is_ordered};
 ghost use Rattle.ql_call.specs.declared.outcome.Outcome.TheVariants as outcome;
 
 use crate::changed::Changed;
@@ -15,18 +16,16 @@ use crate::naming::function_of;
 use crate::operand::{Operand, elements_at, scalar_at, text_at};
 use crate::operators::changed_to;
 use crate::outcome::Outcome;
-use crate::over_time::over;
+use crate::over_time::{SECOND, over};
 use crate::values::{Change, each_value, unnamed};
 use op_base::{Labels, List, Moment, NoMemory, Span};
 use std::alloc::Global;
 
-// A second, in milliseconds.
-const SECOND: i64 = 1000;
-
 /// What a call of the function with that name comes to, at the moment of an evaluation. A name that no
 /// function has gives an empty vector.
 pub fn call(alloc: Global, name: &str, t: &Moment, args: &[Operand]) -> Result<Outcome, NoMemory>
-    ensures { IfOk result (λ o. o ≡ spec.call_of name.now t.now args.now) }
+    ensures value { IfOk result (λ o. o ≡ spec.call_of name.now t.now args.now) }
+    ensures ordered { IfOk result (λ o. is_ordered o ≡ true) }
 {
     match function_of(name) {
         Some(function) => called(alloc, function, t, args),

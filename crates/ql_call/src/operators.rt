@@ -1,7 +1,8 @@
 // Signs, and the operators on two scalars and on a vector with a scalar.
-ghost use Rattle.std.specs.Prelude.{◌≡◌, ◌++◌, map, IfOk, OnOk};
+ghost use Rattle.std.specs.Prelude.{◌≡◌, true, ◌++◌, map, IfOk, OnOk};
 ghost use Rattle.ql_call.specs.Operands as given;
 ghost use Rattle.ql_call.specs.Operators as spec;
+ghost use Rattle.ql_call.specs.Ordered.{in_label_order, is_ordered};
 
 use crate::arithmetic::{negative, number_of};
 use crate::changed::Changed;
@@ -15,8 +16,10 @@ use std::alloc::Global;
 
 /// A sign of an operand. Minus drops the name of each element, and plus changes nothing.
 pub fn signed(alloc: Global, minus: bool, operands: &[Operand]) -> Result<Outcome, NoMemory>
-    ensures { IfOk result (λ o. o
+    ensures value { IfOk result (λ o. o
         ≡ spec.signed minus (given.number_at 0 operands.now) (given.elements_at 0 operands.now)) }
+    ensures ordered { in_label_order (given.elements_at 0 operands.now) ≡ true
+        → IfOk result (λ o. is_ordered o ≡ true) }
 {
     match number_at(operands, 0) {
         Some(number) => Ok(signed_scalar(minus, &number)),

@@ -9,8 +9,8 @@ use crate::function::RangeFunction;
 use crate::numbers::{average, clamped, count, greatest, least, newest, total};
 use op_base::{Moment, Span};
 
-// A second, in milliseconds.
-const SECOND: i128 = 1000;
+/// A second, in milliseconds.
+pub(crate) const SECOND: i64 = 1000;
 
 /// What a function gives of one label set's samples in the order of their moments, if anything: nothing
 /// where there is no sample, or one and the function is `increase` or `rate`. A range that isn't above
@@ -75,7 +75,8 @@ fn rate_of_two(samples: &[(Moment, i64)], range: &Span) -> Option<i64>
 // of the nearest number that has no more is beyond the same end of 64 bits.
 fn per_second(increase: &i128, range: &Span) -> i64
     requires { pos 0 <ℤ range.now.0 }
-    ensures { result ≡ arithmetic.clamped (int_div (increase.now *ℤ spec.SECOND) range.now.0) }
+    ensures { result ≡ arithmetic.clamped (int_div (increase.now *ℤ spec.second) range.now.0) }
 {
-    clamped(&(increase.saturating_mul(SECOND) / i128::from(range.0)))
+    let second = i128::from(SECOND);
+    clamped(&(increase.saturating_mul(second) / i128::from(range.0)))
 }

@@ -1,9 +1,10 @@
 // `and`, `unless` and `or`, which compare keys alone, and all operators on two operands.
-ghost use Rattle.std.specs.Prelude.{◌≡◌, [], ◌∷◌, ◌++◌, filter, IfOk, OnOk, if◌then◌else◌};
+ghost use Rattle.std.specs.Prelude.{◌≡◌, true, [], ◌∷◌, ◌++◌, filter, IfOk, OnOk, if◌then◌else◌};
 ghost use Rattle.op_base.specs.Labels.{labels_cmp};
 ghost use Rattle.op_base.specs.Maps.{in_order as ordered};
 ghost use Rattle.ql_call.specs.Keyed as steps;
 ghost use Rattle.ql_call.specs.Operands as given;
+ghost use Rattle.ql_call.specs.Ordered.{in_label_order, is_ordered};
 ghost use Rattle.ql_call.specs.Sets as spec;
 
 use crate::keys::{is_keyed, ones_by_key};
@@ -25,9 +26,11 @@ pub fn binary(
     left: &[Operand],
     right: &[Operand],
 ) -> Result<Outcome, NoMemory>
-    ensures { IfOk result (λ o. o ≡ spec.binary op boolean matching.now
+    ensures value { IfOk result (λ o. o ≡ spec.binary op boolean matching.now
         (given.number_at 0 left.now) (given.number_at 0 right.now)
         (given.elements_at 0 left.now) (given.elements_at 0 right.now)) }
+    ensures ordered { in_label_order (given.elements_at 0 left.now) ≡ true
+        → IfOk result (λ o. is_ordered o ≡ true) }
 {
     let (these, those) = (elements_at(left, 0), elements_at(right, 0));
     match (number_at(left, 0), number_at(right, 0)) {
