@@ -23,7 +23,7 @@ use Rattle.ql_call.specs.declared.outcome.Outcome.{Outcome}
 use Rattle.ql_call.specs.declared.outcome.Outcome.TheVariants as outcome
 use Rattle.ql_call.proofs.OrderedLemmas.{nodes-keep-order}
 use Rattle.ql_eval.specs.Absent.{absent_labels}
-use Rattle.ql_eval.specs.Selected.{LOOKBACK, asked_of, element_of, elements_in, moment_before, selected_at}
+use Rattle.ql_eval.specs.Selected.{asked_of, element_of, elements_in, lookback, moment_before, selected_at}
 use Rattle.ql_eval.specs.Values.{Around, operand_step, operand_of}
 
 one-element : (labels : Texts) (value : Option ℤ) → IsOneAt labels_cmp (λ (e : Element). e.0) labels (element_of labels value)
@@ -33,10 +33,10 @@ one-element labels (Some value) = inr ((labels, value), refl, refl)
 -- a selector gives elements or series in order
 ordered-selected : (store : Store) (asked : List Matcher) (t : ℤ) (range : Option Span) (labels : Texts) → has_order (selected_at store asked t range labels) ≡ true
 ordered-selected store asked t None labels =
-    let entries = newest store asked (t -ℤ pos LOOKBACK) t in
+    let entries = newest store asked (t -ℤ lookback) t in
     test_is _ (entries-rise labels_cmp (elements_in entries)
     (rises-flat_map labels_cmp labels_of (λ (e : Element). e.0) (λ (entry : Entry). element_of entry.labels entry.value)
-    (λ entry. one-element entry.labels entry.value) entries (newest-rises store asked (t -ℤ pos LOOKBACK) t)))
+    (λ entry. one-element entry.labels entry.value) entries (newest-rises store asked (t -ℤ lookback) t)))
 ordered-selected store asked t (Some range) labels = test_is _ (ranged-sorted store asked (t -ℤ range.0) t)
 
 -- a failure has no elements

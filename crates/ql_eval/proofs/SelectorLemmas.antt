@@ -13,7 +13,7 @@ use Rattle.srv_store.specs.Stores.{Store, all_hold, is_within, window, found_ent
 use Rattle.ql_tree.specs.Enforced.{matcher_of, enforced_matchers}
 use Rattle.ql_call.specs.declared.operand.Operand.TheVariants as operand
 use Rattle.ql_eval.specs.Absent.{absent_labels}
-use Rattle.ql_eval.specs.Selected.{LOOKBACK, asked_of, instant, moment_before, selected, selected_at}
+use Rattle.ql_eval.specs.Selected.{asked_of, instant, lookback, moment_before, selected, selected_at}
 use Rattle.ql_eval.proofs.AbsentLemmas.{absent-alike}
 use Rattle.ql_eval.proofs.MatcherLemmas.{label, asked-enforced}
 
@@ -68,7 +68,7 @@ module _ (name value : List ℕ) where
   -- with a range or without
   selected-at : (store : Store) (asked : List Matcher) (t : ℤ) (range : Option Span) (labels : Texts)
       → selected_at store (asked ++ matcher_of name value ∷ []) t range labels ≡ selected_at (labelled store) asked t range labels
-  selected-at store asked t None labels = ap (λ entries. instant entries labels) (newest-of store asked (t -ℤ pos LOOKBACK) t)
+  selected-at store asked t None labels = ap (λ entries. instant entries labels) (newest-of store asked (t -ℤ lookback) t)
   selected-at store asked t (Some range) labels = ap (λ series. operand.Ranged series range labels) (ranged-of store asked (t -ℤ range.0) t)
 
   -- an enforced selector gives the same, for any label but the metric's name

@@ -15,6 +15,7 @@ use Rattle.ql_call.specs.Elements.{Element}
 use Rattle.ql_call.specs.declared.operand.Operand.{Operand}
 use Rattle.ql_call.specs.declared.operand.Operand.TheVariants as operand
 use Rattle.ql_eval.specs.Absent.{absent_labels}
+use Rattle.ql_eval.specs.declared.selector.TheConstants.{LOOKBACK}
 
 -- `__name__="NAME"`
 abbrev pub name_matcher : List ℕ → Matcher
@@ -56,8 +57,8 @@ abbrev pub moments_in : List Entry → List Moment
 moments_in entries = map (λ (entry : Entry). entry.at) entries
 
 -- how long an entry counts as the newest one, in milliseconds
-abbrev pub LOOKBACK : ℕ
-LOOKBACK = 300000
+abbrev pub lookback : ℤ
+lookback = LOOKBACK
 
 -- the newest elements, and their moments
 abbrev pub instant : List Entry → Texts → Operand
@@ -69,7 +70,7 @@ range_before store asked t range labels = operand.Ranged (ranged store asked (t 
 
 -- what a selector gives: the newest entries before the moment, or with a range their samples
 abbrev pub selected_at : Store → List Matcher → ℤ → Option Span → Texts → Operand
-selected_at store asked t None labels = instant (newest store asked (t -ℤ pos LOOKBACK) t) labels
+selected_at store asked t None labels = instant (newest store asked (t -ℤ lookback) t) labels
 selected_at store asked t (Some range) labels = range_before store asked t range labels
 
 -- a selector over a store with ambient labels, at a moment
