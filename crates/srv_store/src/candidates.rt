@@ -19,7 +19,8 @@ pub(crate) fn candidates(
     matchers: &[Matcher],
 ) -> Result<List<usize>, NoMemory>
     requires { spec.IsIndex keys.now.keys index.now }
-    ensures { IfOk result (λ numbers. numbers ≡ spec.numbers_where (spec.asked_hold matchers.now) keys.now.keys) }
+    ensures { IfOk result (λ numbers. numbers
+        ≡ spec.numbers_where (spec.asked_hold matchers.now) keys.now.keys) }
 {
     let asked = asked_lists(alloc, index, matchers)?;
     let lists = asked.as_slice();
@@ -35,7 +36,8 @@ fn asked_lists<'a>(
     index: &'a LabelMap<List<usize>>,
     matchers: &[Matcher],
 ) -> Result<List<&'a [usize]>, NoMemory>
-    ensures { IfOk result (λ lists. map (λ list. list.now) lists ≡ flat_map (spec.asked_list index.now) matchers.now) }
+    ensures { IfOk result (λ lists. map (λ list. list.now) lists
+        ≡ flat_map (spec.asked_list index.now) matchers.now) }
 {
     let mut lists = List::new(alloc);
     for matcher in matchers {
@@ -85,7 +87,8 @@ fn shortest(lists: &[&[usize]]) -> usize
 // Those of the numbers that stand in all lists.
 fn in_all(alloc: Global, numbers: &[usize], lists: &[&[usize]]) -> Result<List<usize>, NoMemory>
     requires { All (λ list. IsNonDecreasing list.now) lists.now }
-    ensures { IfOk result (λ kept. kept ≡ filter (spec.stands_in_all (map (λ list. list.now) lists.now)) numbers.now) }
+    ensures { IfOk result (λ kept. kept
+        ≡ filter (spec.stands_in_all (map (λ list. list.now) lists.now)) numbers.now) }
 {
     let mut kept = List::new(alloc);
     for number in numbers {
