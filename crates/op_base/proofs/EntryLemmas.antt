@@ -1,5 +1,5 @@
 -- Lists of entries: order, values that aren't empty, and the place of a name.
-use Rattle.std.proofs.Common.{◌≡◌, ℕ, zero, suc, ◌<◌, ◌≤◌, Bool, true, false, not, ◌&&◌, ◌==◌, T, List, [], ◌∷◌, length, cond, get_or, set, Some, None, Result, Ok, Err, OnOk, OnErr, refl, ap, sym, subst, ◌∙◌, arith}
+use Rattle.std.proofs.Common.{◌≡◌, ℕ, zero, suc, ◌<◌, ◌≤◌, Bool, true, false, not, ◌&&◌, ◌==◌, T, List, [], ◌∷◌, length, cond, set, Some, None, Result, Ok, Err, OnOk, OnErr, refl, ap, sym, subst, ◌∙◌, arith}
 use Rattle.std.specs.Prelude.{slice_get, slice_index_or, option_and_then}
 use mathlib.Core.Bool.{true≢false}
 use Rattle.std.specs.declared.cmp.Ordering.{Ordering}
@@ -9,7 +9,7 @@ use Rattle.std.specs.List.Sorted.{IsStrictlySortedBy, IsPartitionedBy}
 use Rattle.std.specs.Bool.{Decides}
 use Rattle.std.specs.Cmp.{first_so, second_so}
 use Rattle.std.specs.Ordering.{nat_cmp, is_lt, is_eq, is_gt, eq_by_cmp, ordering_reverse}
-use Rattle.std.specs.Cmp.Lexicographic.{slice_cmp, pointwise, nat_list_cmp_total, pointwise_decides, bytes_decides}
+use Rattle.std.specs.Cmp.Lexicographic.{slice_cmp, pointwise, nat_list_cmp_total, pointwise_decides, bytes_decides, texts_ties}
 use Rattle.std.specs.FinMap.Entries.{by_order, put, where_key, below_all, is_sorted, is_sorted-put, is_sorted-where_key}
 use Rattle.op_base.specs.Maps.{Map, IsMap, value_at, with_entry, without_entry, keys_of}
 use Rattle.op_base.specs.Labels.{Texts, IsLabels, labels_with, entry_eq}
@@ -34,6 +34,10 @@ first false b p = p
 second : (a b : Bool) → T (a && b) → T b
 second true b p = p
 second false b p = absurd p
+
+-- keys of which neither stands before the other are the same
+same_key : (these those : List ℕ) → by_bytes these those ≡ Equal → these ≡ those
+same_key these those is = (bytes_decides these those).0 (texts_ties these those ∙ ap is_eq is)
 
 module _ {X : Type 0} where
   test_below : (key : List ℕ) (es : Map X) → AllByRecursion (λ y. by_bytes key y ≡ Less) (keys_of es) → T (below_all by_bytes key es)
@@ -69,17 +73,16 @@ module _ {X : Type 0} where
       elim (is_gt (by_bytes key e.0)) as (λ b. cond b (suc (place_in es key)) 0 ≤ suc (length es)) [ true ↦ omega (arith, rest) | false ↦ omega arith ]
 
   -- the entry at the place of its name is written over
-  put-here : (es : Map X) (key : List ℕ) (value : X) (there : List ℕ × X) → stands_at es (place_in es key) key ≡ true
-      → there ≡ get_or es (place_in es key) there → with_entry es key value ≡ set es (place_in es key) (there.0, value)
-  put-here [] key value there found read = absurd (true≢false (sym found))
-  put-here (e ∷ es) key value there found read =
+  put-here : (es : Map X) (key : List ℕ) (value : X) → stands_at es (place_in es key) key ≡ true
+      → with_entry es key value ≡ set es (place_in es key) (key, value)
+  put-here [] key value found = absurd (true≢false (sym found))
+  put-here (e ∷ es) key value found =
       elim (by_bytes key e.0) as (λ o. by_bytes key e.0 ≡ o → stands_at (e ∷ es) (cond (is_gt o) (suc (place_in es key)) 0) key ≡ true
-      → there ≡ get_or (e ∷ es) (cond (is_gt o) (suc (place_in es key)) 0) there
-      → by_order o ((key, value) ∷ e ∷ es) ((e.0, value) ∷ es) (e ∷ put by_bytes key value es) ≡ set (e ∷ es) (cond (is_gt o) (suc (place_in es key)) 0) (there.0, value)) [
-        | Less ↦ λ is f r. absurd (true≢false (sym f ∙ ap is_eq is))
-        | Equal ↦ λ is f r. ap (λ (x : List ℕ × X). (x.0, value) ∷ es) (sym r)
-        | Greater ↦ λ is f r. ap (λ l. e ∷ l) (put-here es key value there f r)
-      ] refl found read
+      → by_order o ((key, value) ∷ e ∷ es) ((e.0, value) ∷ es) (e ∷ put by_bytes key value es) ≡ set (e ∷ es) (cond (is_gt o) (suc (place_in es key)) 0) (key, value)) [
+        | Less ↦ λ is f. absurd (true≢false (sym f ∙ ap is_eq is))
+        | Equal ↦ λ is f. ap (λ (name : List ℕ). (name, value) ∷ es) (sym (same_key key e.0 is))
+        | Greater ↦ λ is f. ap (λ l. e ∷ l) (put-here es key value f)
+      ] refl found
 
   -- else a new one is put there
   put-before : (es : Map X) (key : List ℕ) (value : X) → stands_at es (place_in es key) key ≡ false → with_entry es key value ≡ insert es (place_in es key) (key, value)
@@ -92,12 +95,9 @@ module _ {X : Type 0} where
         | Greater ↦ λ is f. ap (λ l. e ∷ l) (put-before es key value f)
       ] refl free
 
-  pub put-found : (es : Map X) (key : List ℕ) (value : X) (place : ℕ) (there : List ℕ × X) → place ≡ place_in es key → stands_at es place key ≡ true
-      → there ≡ get_or es place there → set es place (there.0, value) ≡ with_entry es key value
-  put-found es key value place there at found read =
-      let found_at = rw at at found in
-      let read_at = rw at at read in
-      rw at (sym (put-here es key value there found_at read_at))
+  pub put-found : (es : Map X) (key : List ℕ) (value : X) (place : ℕ) → place ≡ place_in es key → stands_at es place key ≡ true
+      → set es place (key, value) ≡ with_entry es key value
+  put-found es key value place at found = let found_at = rw at at found in rw at (sym (put-here es key value found_at))
 
   pub put-free : (es : Map X) (key : List ℕ) (value : X) (place : ℕ) → place ≡ place_in es key → stands_at es place key ≡ false
       → insert es place (key, value) ≡ with_entry es key value

@@ -50,14 +50,28 @@ entry_cmp = then_cmp (on (λ entry. entry.0) (slice_cmp nat_cmp)) (on (λ entry.
 abbrev pub labels_cmp : Texts → Texts → Ordering
 labels_cmp = slice_cmp entry_cmp
 
+-- equal entries are those of which neither stands before the other
+pub entry_ties : (this that : List ℕ × List ℕ) → entry_eq this that ≡ eq_by_cmp entry_cmp this that
+entry_ties this that =
+    both_tied _ _ (slice_cmp nat_cmp this.0 that.0) (slice_cmp nat_cmp this.1 that.1) (texts_ties this.0 that.0) (texts_ties this.1 that.1)
+
 -- equal label sets are those of which neither stands before the other
 pub labels_ties : (these those : Texts) → pointwise entry_eq these those ≡ eq_by_cmp labels_cmp these those
-labels_ties = lists_ties entry_cmp (λ this that.
-    both_tied _ _ (slice_cmp nat_cmp this.0 that.0) (slice_cmp nat_cmp this.1 that.1) (texts_ties this.0 that.0) (texts_ties this.1 that.1))
+labels_ties = lists_ties entry_cmp entry_ties
 
--- what a label set gives a hasher: its entries, each as its two texts
+-- what an entry gives a hasher: its two texts
+abbrev pub entry_fed : List ℕ × List ℕ → fed.HashWrites
+entry_fed entry = fed.str entry.0 ++ fed.str entry.1
+
+-- what a label set gives a hasher: its entries
 abbrev pub labels_fed : Texts → fed.HashWrites
-labels_fed = fed.slice (λ entry. fed.str entry.0 ++ fed.str entry.1)
+labels_fed = fed.slice entry_fed
+
+-- equal entries give a hasher the same
+pub entry_fed_alike : (this that : List ℕ × List ℕ) → entry_eq this that ≡ true → entry_fed this ≡ entry_fed that
+entry_fed_alike = (fed.and-Alike
+    (fed.on_Alike (λ (entry : List ℕ × List ℕ). entry.0) (fed.same_Alike fed.str bytes_decides))
+    (fed.on_Alike (λ (entry : List ℕ × List ℕ). entry.1) (fed.same_Alike fed.str bytes_decides))).fed
 
 -- equal label sets give a hasher the same
 pub labels_fed_alike : (these those : Texts) → pointwise entry_eq these those ≡ true → labels_fed these ≡ labels_fed those

@@ -3,6 +3,7 @@
 use Rattle.std.specs.Prelude.{ℕ, ◌+◌, ◌-◌, ◌*◌, ◌/◌, ◌%◌, ◌^◌, pos, Bool, List, [], ◌∷◌, ◌++◌, ◌==◌, ◌&&◌, nat_lt, min, take, drop, length, codes, decimal, Option, Some, None, Result, Ok, Err, option_map, if◌then◌else◌, bytes_eq}
 use Rattle.std.specs.List.{prefix_len}
 use Rattle.op_base.specs.declared.span.Span.{Span}
+use Rattle.op_base.specs.declared.span.TheConstants.{LONGEST}
 use Rattle.op_base.specs.declared.span.SpanFault.{SpanFault}
 use Rattle.op_base.specs.declared.span.SpanFault.TheVariants.{Shape, Long}
 use Rattle.op_base.specs.declared.span.TimeUnit.{TimeUnit}
@@ -35,7 +36,7 @@ units = Year ∷ Week ∷ Day ∷ Hour ∷ Minute ∷ Second ∷ Millisecond ∷
 
 -- the longest span: 100 years
 abbrev pub longest : ℕ
-longest = 3153600000000
+longest = LONGEST
 
 -- the number that digits write behind those of n
 abbrev pub number_after : ℕ → List ℕ → ℕ

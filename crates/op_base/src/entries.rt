@@ -6,11 +6,11 @@ ghost use Rattle.std.specs.Cmp.Lexicographic.{slice_cmp};
 ghost use Rattle.op_base.specs.Maps.{IsMap, value_at, with_entry, without_entry};
 ghost use Rattle.op_base.specs.Entries.{place_in, stands_at, value_if};
 
+use crate::entry::Entry;
 use crate::memory::NoMemory;
-use crate::text::Text;
 use std::cmp::Ordering;
 
-pub(crate) fn find<'a>(entries: &'a [(Text, Text)], name: &str) -> Option<&'a str>
+pub(crate) fn find<'a>(entries: &'a [Entry], name: &str) -> Option<&'a str>
     requires { IsMap entries.now }
     ensures { option_copied result ≡ value_at entries.now name.now }
 {
@@ -18,7 +18,7 @@ pub(crate) fn find<'a>(entries: &'a [(Text, Text)], name: &str) -> Option<&'a st
 }
 
 // The value at the place, where the entry there has the name.
-fn value_there<'a>(entries: &'a [(Text, Text)], place: usize, name: &str) -> Option<&'a str>
+fn value_there<'a>(entries: &'a [Entry], place: usize, name: &str) -> Option<&'a str>
     ensures { option_copied result ≡ option_and_then (value_if name.now) (slice_get entries.now place) }
 {
     match entries.get(place) {
@@ -27,32 +27,32 @@ fn value_there<'a>(entries: &'a [(Text, Text)], place: usize, name: &str) -> Opt
     }
 }
 
-fn value_in<'a>(entry: &'a (Text, Text), name: &str) -> Option<&'a str>
+fn value_in<'a>(entry: &'a Entry, name: &str) -> Option<&'a str>
     ensures { option_copied result ≡ value_if name.now entry.now }
 {
     if has_name(entry, name) {
-        Some(entry.1.as_str())
+        Some(entry.text())
     } else {
         None
     }
 }
 
-// Puts the value at the name, in place of any that stood there.
-pub(crate) fn put(entries: &mut Vec<(Text, Text)>, name: Text, value: Text) -> Result<(), NoMemory>
+// Puts the entry, in place of any of its name.
+pub(crate) fn put(entries: &mut Vec<Entry>, entry: Entry) -> Result<(), NoMemory>
     requires { IsMap entries.old.items }
-    ensures ok { OnOk result (entries.new.items ≡ with_entry entries.old.items name value) }
+    ensures ok { OnOk result (entries.new.items ≡ with_entry entries.old.items entry.0 entry.1) }
     ensures err { OnErr result (entries.new.items ≡ entries.old.items) }
 {
-    let place = place_of(entries.as_slice(), name.as_str());
-    if is_at(entries.as_slice(), place, name.as_str()) {
-        entries[place].1 = value;
+    let place = place_of(entries.as_slice(), entry.name());
+    if is_at(entries.as_slice(), place, entry.name()) {
+        entries[place] = entry;
         return Ok(());
     }
-    entries.insert(place, (name, value))?;
+    entries.insert(place, entry)?;
     Ok(())
 }
 
-pub(crate) fn remove(entries: &mut Vec<(Text, Text)>, name: &str)
+pub(crate) fn remove(entries: &mut Vec<Entry>, name: &str)
     requires { IsMap entries.old.items }
     ensures { entries.new.items ≡ without_entry entries.old.items name.now }
 {
@@ -62,7 +62,7 @@ pub(crate) fn remove(entries: &mut Vec<(Text, Text)>, name: &str)
     }
 }
 
-fn place_of(entries: &[(Text, Text)], name: &str) -> usize
+fn place_of(entries: &[Entry], name: &str) -> usize
     requires { IsMap entries.now }
     ensures { result ≡ place_in entries.now name.now }
 {
@@ -70,16 +70,16 @@ fn place_of(entries: &[(Text, Text)], name: &str) -> usize
 }
 
 // The entry's name is below the name.
-fn is_before(entry: &(Text, Text), name: &str) -> bool
+fn is_before(entry: &Entry, name: &str) -> bool
     ensures { result ≡ is_gt (slice_cmp nat_cmp name.now entry.now.0) }
 {
-    match name.cmp(entry.0.as_str()) {
+    match name.cmp(entry.name()) {
         Ordering::Greater => true,
         _ => false,
     }
 }
 
-fn is_at(entries: &[(Text, Text)], place: usize, name: &str) -> bool
+fn is_at(entries: &[Entry], place: usize, name: &str) -> bool
     ensures { result ≡ stands_at entries.now place name.now }
 {
     match entries.get(place) {
@@ -88,10 +88,10 @@ fn is_at(entries: &[(Text, Text)], place: usize, name: &str) -> bool
     }
 }
 
-fn has_name(entry: &(Text, Text), name: &str) -> bool
+fn has_name(entry: &Entry, name: &str) -> bool
     ensures { result ≡ eq_by_cmp (slice_cmp nat_cmp) name.now entry.now.0 }
 {
-    match name.cmp(entry.0.as_str()) {
+    match name.cmp(entry.name()) {
         Ordering::Equal => true,
         _ => false,
     }

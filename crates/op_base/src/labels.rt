@@ -5,19 +5,19 @@ ghost use Rattle.op_base.specs.Labels.{IsLabels, labels_with, labels_with_all, n
 ghost use Rattle.op_base.specs.Matchers.{label_value};
 
 use crate::entries::{find, put, remove};
+use crate::entry::Entry;
 use crate::memory::NoMemory;
 use crate::tags::Tags;
-use crate::text::Text;
 use std::alloc::Global;
 use std::cmp::Ordering;
 use std::hash::{Hash, Hasher};
 use std::marker::Model;
 
 /// A label set of the Prometheus data model: a finite map from names to texts that aren't empty.
-/// Contracts see its entries in the order of the names. It keeps its allocator.
+/// Contracts see its entries in the order of the names. It keeps its allocator. A copy shares the texts.
 #[derive(Debug, Drop)]
 pub struct Labels {
-    entries: Vec<(Text, Text)>,
+    entries: Vec<Entry>,
 }
 
 impl Model for Labels {
@@ -78,10 +78,8 @@ impl Labels {
             remove(&mut self.entries, name);
             return Ok(());
         }
-        let alloc = *self.entries.allocator();
-        let name = Text::from_str(alloc, name)?;
-        let value = Text::from_str(alloc, value)?;
-        put(&mut self.entries, name, value)
+        let entry = Entry::new(*self.entries.allocator(), name, value)?;
+        put(&mut self.entries, entry)
     }
 
     /// Puts each of the texts at its name, in place of any that stood there. An empty text removes the
@@ -99,13 +97,25 @@ impl Labels {
         self.set_each(others.entries.as_slice())
     }
 
-    fn set_each(&mut self, others: &[(Text, Text)]) -> Result<(), NoMemory>
+    fn set_each(&mut self, others: &[Entry]) -> Result<(), NoMemory>
         ensures { OnOk result (self.new ≡ labels_with_all self.old others.now) }
     {
         for other in others {
-            self.set(other.0.as_str(), other.1.as_str())?;
+            self.set_entry(other)?;
         }
         Ok(())
+    }
+
+    // As `set`, with the texts shared.
+    fn set_entry(&mut self, other: &Entry) -> Result<(), NoMemory>
+        ensures { OnOk result (self.new ≡ labels_with self.old other.now.0 other.now.1) }
+    {
+        if other.text().is_empty() {
+            remove(&mut self.entries, other.name());
+            return Ok(());
+        }
+        let entry = other.clone()?;
+        put(&mut self.entries, entry)
     }
 
     /// Removes the name, where it is there.
@@ -120,7 +130,7 @@ impl Labels {
         requires { index < length self.now }
         ensures { result.now ≡ name_in self.now index }
     {
-        self.entries[index].0.as_str()
+        self.entries[index].name()
     }
 
     /// The value at the place `index` in the order of names.
@@ -128,10 +138,10 @@ impl Labels {
         requires { index < length self.now }
         ensures { result.now ≡ text_in self.now index }
     {
-        self.entries[index].1.as_str()
+        self.entries[index].text()
     }
 
-    /// An equal label set.
+    /// An equal label set, which shares the texts.
     pub fn copy(&self) -> Result<Labels, NoMemory>
         ensures { IfOk result (λ labels. labels ≡ self.now) }
     {

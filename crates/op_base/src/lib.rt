@@ -7,6 +7,7 @@
 #![tactic(auto)]
 
 mod entries;
+mod entry;
 mod key;
 mod kind;
 mod label_names;

@@ -1,4 +1,4 @@
-ghost use Rattle.std.specs.Prelude.{◌≡◌, [], ◌∷◌, ◌++◌, length, drop, slice_get, IsTrue, ◌↔◌, OnOk, OnErr, MatchOption};
+ghost use Rattle.std.specs.Prelude.{◌≡◌, ◌-◌, [], ◌∷◌, ◌++◌, length, drop, slice_get, IsTrue, ◌↔◌, OnOk, OnErr, MatchOption};
 ghost use Rattle.std.specs.Option.{option_copied};
 
 use crate::memory::NoMemory;
@@ -101,7 +101,8 @@ impl<T: Drop> List<T> {
 
 /// The items from the place on.
 pub fn behind<T>(items: &[T], place: usize) -> &[T]
-    ensures { result.now ≡ drop place items.now }
+    ensures items { result.now ≡ drop place items.now }
+    ensures len { length result.now ≡ length items.now - place }
 {
     if place < items.len() {
         &items[place..]

@@ -1,8 +1,9 @@
-ghost use Rattle.std.specs.Prelude.{◌≡◌, ◌≤◌, ◌+◌, ◌*◌, pos, nat_abs, ◌≤ℤ◌, take, drop, option_map, IfOk, Ok, Some, []};
+ghost use Rattle.std.specs.Prelude.{◌≡◌, ◌≤◌, ◌+◌, ◌*◌, pos, nat_abs, ◌≤ℤ◌, take, option_map, IfOk, Ok, Some, []};
 ghost use Rattle.std.specs.List.{prefix_len};
 ghost use Rattle.op_base.specs.Names.{is_lower};
 ghost use Rattle.op_base.specs.Spans as spec;
 
+use crate::list::behind;
 use crate::memory::NoMemory;
 use crate::text::Text;
 use std::alloc::Global;
@@ -150,7 +151,7 @@ fn parts(bytes: &[u8], units: &[TimeUnit]) -> Option<u64>
 {
     match units {
         [] => nothing(bytes),
-        [unit, smaller @ ..] => add(amount(bytes, *unit), parts(behind(bytes, *unit), smaller)),
+        [unit, smaller @ ..] => add(amount(bytes, *unit), parts(rest(bytes, *unit), smaller)),
     }
 }
 
@@ -179,20 +180,20 @@ fn amount(bytes: &[u8], unit: TimeUnit) -> u64
     number(front(bytes, digits(bytes))).saturating_mul(unit.size())
 }
 
-fn behind(bytes: &[u8], unit: TimeUnit) -> &[u8]
+fn rest(bytes: &[u8], unit: TimeUnit) -> &[u8]
     ensures { result.now ≡ spec.rest_of unit bytes.now }
 {
     if !has_part(bytes, unit) {
         return bytes;
     }
-    back(back(bytes, digits(bytes)), unit.name().len())
+    behind(behind(bytes, digits(bytes)), unit.name().len())
 }
 
 fn has_part(bytes: &[u8], unit: TimeUnit) -> bool
     ensures { result ≡ spec.has_part unit bytes.now }
 {
     let count = digits(bytes);
-    let rest = back(bytes, count);
+    let rest = behind(bytes, count);
     0 < count && front(rest, letters(rest)) == unit.name().as_bytes()
 }
 
@@ -227,15 +228,5 @@ fn front(bytes: &[u8], count: usize) -> &[u8]
         &bytes[..count]
     } else {
         bytes
-    }
-}
-
-fn back(bytes: &[u8], count: usize) -> &[u8]
-    ensures { result.now ≡ drop count bytes.now }
-{
-    if count <= bytes.len() {
-        &bytes[count..]
-    } else {
-        &[]
     }
 }

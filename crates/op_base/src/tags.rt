@@ -6,16 +6,17 @@ ghost use Rattle.op_base.specs.Labels.{name_in, text_in};
 ghost use Rattle.op_base.specs.Tags as spec;
 
 use crate::entries::{find, put};
+use crate::entry::Entry;
 use crate::memory::NoMemory;
-use crate::text::Text;
 use std::alloc::Global;
 use std::marker::Model;
 
 /// The labels of a Kubernetes object: a finite map from keys to texts that may be empty. Contracts
-/// see its entries in the order of the keys. It keeps its allocator.
+/// see its entries in the order of the keys. It keeps its allocator. A copy shares the
+/// texts.
 #[derive(Debug, Drop)]
 pub struct Tags {
-    entries: Vec<(Text, Text)>,
+    entries: Vec<Entry>,
 }
 
 impl Model for Tags {
@@ -89,7 +90,7 @@ impl Tags {
         self.entries.len()
     }
 
-    pub(crate) fn as_slice(&self) -> &[(Text, Text)]
+    pub(crate) fn as_slice(&self) -> &[Entry]
         ensures { result.now ≡ self.now }
     {
         self.entries.as_slice()
@@ -108,10 +109,8 @@ impl Tags {
         ensures ok { OnOk result (self.new ≡ with_entry self.old key.now value.now) }
         ensures err { OnErr result (self.new ≡ self.old) }
     {
-        let alloc = *self.entries.allocator();
-        let key = Text::from_str(alloc, key)?;
-        let value = Text::from_str(alloc, value)?;
-        put(&mut self.entries, key, value)
+        let entry = Entry::new(*self.entries.allocator(), key, value)?;
+        put(&mut self.entries, entry)
     }
 
     /// The key at the place `index` in the order of keys.
@@ -119,7 +118,7 @@ impl Tags {
         requires { index < length self.now }
         ensures { result.now ≡ name_in self.now index }
     {
-        self.entries[index].0.as_str()
+        self.entries[index].name()
     }
 
     /// The text at the place `index` in the order of keys.
@@ -127,7 +126,7 @@ impl Tags {
         requires { index < length self.now }
         ensures { result.now ≡ text_in self.now index }
     {
-        self.entries[index].1.as_str()
+        self.entries[index].text()
     }
 
     /// Equal tags.

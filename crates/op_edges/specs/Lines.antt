@@ -1,20 +1,22 @@
 -- The lines of a source: each ends with a newline or with the source's end.
 use Rattle.std.specs.Prelude.{ℕ, ◌≡◌, ◌≢◌, ◌+◌, ◌-◌, ◌<◌, ◌≤◌, ◌==◌, Bool, true, false, List, [], ◌∷◌, map, length, take, Result, Ok, Err, nat_lt, if◌then◌else◌}
 use Rattle.op_base.specs.declared.memory.NoMemory.{NoMemory}
+use Rattle.op_edges.specs.declared.held.TheConstants.{MOST_BYTES}
 use Rattle.op_edges.specs.declared.lines.Line.{Line}
 use Rattle.op_edges.specs.declared.lines.Line.TheVariants.{Whole, Long, End, Fault, Limit}
+use Rattle.op_edges.specs.declared.step.TheConstants.{MOST_LINE, NEWLINE}
 
 -- the byte that ends a line
 abbrev pub newline : ℕ
-newline = 10
+newline = NEWLINE
 
 -- the most bytes of a line
 abbrev pub most_line : ℕ
-most_line = 1_048_576
+most_line = MOST_LINE
 
 -- the most bytes of a source
 abbrev pub most_bytes : ℕ
-most_bytes = 268_435_456
+most_bytes = MOST_BYTES
 
 -- the byte in front of the first line
 abbrev pub onto : ℕ → List (List ℕ) → List (List ℕ)

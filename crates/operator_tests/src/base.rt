@@ -39,6 +39,15 @@ fn texts_have_an_order(alloc: Global) -> Result<bool, NoMemory> {
     Ok(text(alloc, "a")? < text(alloc, "b")?)
 }
 
+/// Whether labels that are put over others take their place, and leave a copy as it was.
+fn are_put_over(alloc: Global) -> Result<bool, NoMemory> {
+    let mut labels = label(alloc, "job", "own")?;
+    labels.set("le", "1")?;
+    let copy = labels.copy()?;
+    labels.set_labels(&label(alloc, "job", "given")?)?;
+    Ok(labels.value("job") == "given" && labels.value("le") == "1" && copy.value("job") == "own")
+}
+
 fn labels_have_an_order(alloc: Global) -> Result<bool, NoMemory> {
     Ok(label(alloc, "a", "x")? < label(alloc, "b", "x")?)
 }
@@ -100,6 +109,7 @@ fn what_no_command_calls_answers(rt: HostRuntime) {
     assert!(rt; are_empty(alloc));
     assert!(rt; is_so(texts_have_an_order(alloc)));
     assert!(rt; is_so(labels_have_an_order(alloc)));
+    assert!(rt; is_so(are_put_over(alloc)));
     assert!(rt; is_so(is_put(alloc)));
     assert!(rt; is_so(chooses(alloc)));
     assert!(rt; is_so(is_written(alloc)));

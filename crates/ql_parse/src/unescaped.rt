@@ -43,11 +43,11 @@ fn inside(alloc: Global, quote: u8, bytes: &[u8]) -> Result<Vec<u8>, NoMemory>
             Step::Broken => return Ok(Vec::new(alloc)),
             Step::Byte(b) => {
                 text.push(b)?;
-                behind = past(behind, 1);
+                behind = op_base::behind(behind, 1);
             }
             Step::Character(c, n) => {
                 push_char(&mut text, c)?;
-                behind = past(behind, n);
+                behind = op_base::behind(behind, n);
             }
         }
     }
@@ -59,13 +59,6 @@ fn push_char(text: &mut Vec<u8>, c: char) -> Result<(), NoMemory>
     let mut room = [0; 4];
     text.extend_from_slice(c.encode_utf8(&mut room).as_bytes())?;
     Ok(())
-}
-
-fn past(bytes: &[u8], n: usize) -> &[u8]
-    requires { n ≤ length bytes.now }
-    ensures { result.now ≡ drop n bytes.now }
-{
-    &bytes[n..]
 }
 
 enum Step {

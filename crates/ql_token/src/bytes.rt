@@ -1,4 +1,4 @@
-ghost use Rattle.std.specs.Prelude.{◌≡◌, ◌+◌, ◌≤◌, length, drop};
+ghost use Rattle.std.specs.Prelude.{◌≡◌, ◌≤◌, length};
 ghost use Rattle.std.specs.List.{prefix_len};
 ghost use Rattle.op_base.specs.Names.{is_metric_start, is_metric_byte};
 ghost use Rattle.ql_tree.specs.Tokens as spec;
@@ -55,13 +55,4 @@ fn is_word_byte(b: u8) -> bool
     ensures { result ≡ is_metric_byte b }
 {
     b.is_ascii_alphanumeric() || b == b'_' || b == b':'
-}
-
-/// The text behind its first `n` bytes.
-pub(crate) fn past(bytes: &[u8], n: usize) -> &[u8]
-    requires { n ≤ length bytes.now }
-    ensures behind { result.now ≡ drop n bytes.now }
-    ensures left { n + length result.now ≡ length bytes.now }
-{
-    &bytes[n..]
 }

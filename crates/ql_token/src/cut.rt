@@ -4,7 +4,7 @@ ghost use Rattle.ql_tree.specs.declared.token.Token.{Token};
 ghost use Rattle.ql_tree.specs.Tokens.{IsTokens, IsBadAt};
 ghost use Rattle.ql_token.specs.Cuts.{IsStep};
 
-use crate::bytes::{gap, past};
+use crate::bytes::gap;
 use crate::fault::TokenFault;
 use crate::front::front;
 use op_base::List;
@@ -48,7 +48,7 @@ pub fn tokens(alloc: Global, text: &str) -> Result<List<Token>, TokenFault>
         match next(behind) {
             Step::Gap(blank) => {
                 place += blank;
-                behind = past(behind, blank);
+                behind = op_base::behind(behind, blank);
             }
             Step::Token(kind, len) => {
                 found.push(Token {
@@ -57,7 +57,7 @@ pub fn tokens(alloc: Global, text: &str) -> Result<List<Token>, TokenFault>
                     end: place + len,
                 })?;
                 place += len;
-                behind = past(behind, len);
+                behind = op_base::behind(behind, len);
             }
             Step::Bad => return Err(TokenFault::BadChar(place)),
         }

@@ -6,8 +6,6 @@ ghost use Rattle.std.specs.Str.Parse.{digits_value};
 ghost use Rattle.ql_tree.specs.Strings as spec;
 ghost use Rattle.ql_token.specs.Inside.{IsStep, length_of};
 
-use crate::bytes::past;
-
 /// The number that the next digits of the radix write, as many as asked.
 #[tactic(auto, unfolding(ql_tree::specs::Strings::numeral_at))]
 fn numeral(radix: u32, count: usize, bytes: &[u8]) -> Option<u32>
@@ -236,7 +234,7 @@ pub(crate) fn inside(quote: u8, bytes: &[u8]) -> Option<usize>
             Step::Broken => return None,
             Step::Piece(n) => {
                 taken += n;
-                behind = past(behind, n);
+                behind = op_base::behind(behind, n);
             }
         }
     }

@@ -6,13 +6,13 @@ use Rattle.ql_token.proofs.cut.tokens.Goals as goal
 
 pub loop-behind-preserved-in-Gap : goal.loop-behind-preserved-in-Gap
 loop-behind-preserved-in-Gap c =
-    (omega arith, past_gap _ _ _ _ _ _ c.loop-behind.invariant.1 c.in-Gap.ensures.0 c.in-Gap.ensures.2 c.past-behind.ensures.behind)
+    (omega (arith, c.in-Gap.ensures.1), past_gap _ _ _ _ _ _ c.loop-behind.invariant.1 c.in-Gap.ensures.0 c.in-Gap.ensures.2 c.behind-behind.ensures.items)
 
 pub loop-behind-preserved : goal.loop-behind-preserved
 loop-behind-preserved c = (
-  omega arith,
+  omega (arith, c.in-Token.ensures.1),
   past_token _ _ _ _ c.in-Token.kind c.in-Token.len _ _ c.loop-behind.invariant.1 c.in-Token.ensures.2 c.in-Token.ensures.3
-      c.in_ok-push-in-Token.ensures.ok c.past-behind-in-Token.ensures.behind,
+      c.in_ok-push-in-Token.ensures.ok c.behind-behind-in-Token.ensures.items,
 )
 
 pub returns-in-Bad-clause-bad_char : goal.returns-in-Bad-clause-bad_char
