@@ -1,7 +1,9 @@
 -- Lines of bytes: a front without a newline, and what comes behind it.
-use Rattle.std.proofs.Common.{◌≡◌, ◌≢◌, inl, inr, ℕ, ◌+◌, ◌-◌, ◌<◌, ◌≤◌, true, cond, List, [], ◌∷◌, ◌++◌, map, length, take, get_or, zero, suc, refl, sym, ap, subst, ◌∙◌, append_assoc, length-append, arith}
+use Rattle.std.proofs.Common.{◌≡◌, ◌≢◌, inl, inr, ℕ, ◌+◌, ◌-◌, ◌<◌, ◌≤◌, true, cond, List, [], ◌∷◌, ◌++◌, ◌==◌, map, length, take, drop, get_or, zero, suc, refl, sym, ap, subst, ◌∙◌, append_assoc, length-append, arith}
+use Rattle.std.proofs.Math.Seq.{take-add}
 use Rattle.std.proofs.lemmas.List.{take_more, take-append-le}
 use Rattle.std.proofs.lemmas.Bool.{ne_eqb, lt-ltb}
+use Rattle.memchr.specs.Find.{Nowhere, Passes, is_byte}
 use Rattle.op_edges.specs.Lines.{newline, most_line, most_bytes, onto, lines_of, shown, shown_as, shown_lines, is_line, IsClean, IsFine, Says}
 use Rattle.op_edges.specs.Steps.{Holding, gone, MovesOn, LineEnds, Ends, IsPassed, AnswerCounts}
 use Rattle.op_edges.specs.declared.lines.Line.{Line}
@@ -19,6 +21,21 @@ clean_take (suc n) (x ∷ xs) p = (p.0, clean_take n xs p.1)
 -- one more byte that is no newline
 pub clean_more : (xs : List ℕ) (i : ℕ) → i < length xs → IsClean (take i xs) → get_or xs i 0 ≢ newline → IsClean (take (i + 1) xs)
 clean_more xs i within clean other = subst IsClean (sym (take_more xs i 0 within)) (clean_append (take i xs) (get_or xs i 0 ∷ []) clean (other, tt))
+
+-- bytes among which no newline stands
+pub none_clean : (n : ℕ) (xs : List ℕ) → n ≤ length xs → Nowhere (Passes (is_byte newline) xs) 0 n → IsClean (take n xs)
+none_clean zero xs within none = tt
+none_clean (suc n) [] within none = absurd (omega (arith, within))
+none_clean (suc n) (x ∷ xs) within none = (
+  λ is. none 0 (omega arith) (omega arith) (subst (λ b. (b == newline) ≡ true) (sym is) refl),
+  none_clean n xs (omega (arith, within)) (λ k low high passes. none (suc k) (omega arith) (omega (arith, high)) passes),
+)
+
+-- such bytes behind a clean front
+pub clean_behind : (clean n : ℕ) (xs : List ℕ) → IsClean (take clean xs) → n ≤ length (drop clean xs)
+    → Nowhere (Passes (is_byte newline) (drop clean xs)) 0 n → IsClean (take (clean + n) xs)
+clean_behind clean n xs tidy within none =
+    subst IsClean (sym (take-add clean n xs)) (clean_append (take clean xs) (take n (drop clean xs)) tidy (none_clean n (drop clean xs) within none))
 
 -- fewer bytes
 pub clean_less : (n k : ℕ) (xs : List ℕ) → n ≤ k → IsClean (take k xs) → IsClean (take n xs)

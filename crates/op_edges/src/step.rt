@@ -7,7 +7,8 @@ ghost use Rattle.op_edges.specs.Steps.{gone, MovesOn, IsPassed, IsBegun, StepSay
 use crate::held::{Got, Held, MOST_BYTES};
 use crate::lines::Line;
 use crate::source::Source;
-use op_base::{List, NoMemory};
+use memchr::memchr;
+use op_base::{List, NoMemory, behind};
 use std::alloc::Global;
 
 const NEWLINE: u8 = b'\n';
@@ -190,10 +191,8 @@ fn newline_from(bytes: &[u8], clean: usize) -> usize
     ensures newline { result < length bytes.now
         → bytes.now ≡ take result bytes.now ++ newline ∷ drop (result + 1) bytes.now }
 {
-    for at in clean..bytes.len() {
-        if bytes[at] == NEWLINE {
-            return at;
-        }
+    match memchr(NEWLINE, behind(bytes, clean)) {
+        Some(place) => clean + place,
+        None => bytes.len(),
     }
-    bytes.len()
 }
