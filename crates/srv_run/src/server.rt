@@ -83,50 +83,52 @@ impl Server {
 
     /// Takes an event, and says what it gives. A tick that isn't above the last one is late, and
     /// changes nothing. After want of memory a part of a tick's entries may be stored.
-    pub fn event(&mut self, event: Event) -> Result<List<Report>, EventFault>
-        requires { spec.IsFit event }
+    pub fn event(&mut self, event: &Event) -> Result<List<Report>, EventFault>
+        requires { spec.IsFit event.now }
         ensures reports { IfOk result (λ reports. reports
-            ≡ spec.reports_of self.old.config self.old.served event) }
+            ≡ spec.reports_of self.old.config self.old.served event.now) }
         ensures served { OnOk result (self.new
-            ≡ record self.old { served = spec.served_after self.old.config self.old.served event }) }
+            ≡ record self.old { served = spec.served_after self.old.config self.old.served event.now }) }
         ensures named { IfOk result AreNamed }
-        ensures early { OnOk result (spec.late_event self.old.served event ≡ None) }
+        ensures early { OnOk result (spec.late_event self.old.served event.now ≡ None) }
         ensures late { IfErr result (λ fault. (last : _) → fault ≡ EventFault.LateTick last
-            → spec.late_event self.old.served event ≡ Some last) }
+            → spec.late_event self.old.served event.now ≡ Some last) }
         ensures late_leaves { IfErr result (λ fault. (last : _) → fault ≡ EventFault.LateTick last
             → self.new ≡ self.old) }
         ensures cut_off { OnErr result (spec.IsCutOff self.old self.new
-            (spec.served_after self.old.config self.old.served event)) }
+            (spec.served_after self.old.config self.old.served event.now)) }
     {
         match event {
             Event::Known(namespace) => Ok(self.know(namespace)?),
             Event::Page(url, samples) => Ok(self.take_page(url, samples)?),
-            Event::Tick(t) => self.tick(t),
+            Event::Tick(t) => self.tick(*t),
         }
     }
 
-    fn know(&mut self, namespace: Text) -> Result<List<Report>, NoMemory>
-        requires { is_namespace namespace ≡ true }
+    fn know(&mut self, namespace: &Text) -> Result<List<Report>, NoMemory>
+        requires { is_namespace namespace.now ≡ true }
         ensures reports { IfOk result (λ reports. reports ≡ []) }
         ensures served { OnOk result (self.new
-            ≡ record self.old { served = spec.with_known self.old.served namespace }) }
+            ≡ record self.old { served = spec.with_known self.old.served namespace.now }) }
         ensures err { OnErr result (self.new ≡ self.old) }
     {
-        self.known.insert(namespace, ())?;
+        let name = Text::from_str(self.alloc, namespace.as_str())?;
+        self.known.insert(name, ())?;
         Ok(List::new(self.alloc))
     }
 
     fn take_page(
         &mut self,
-        url: Text,
-        samples: Option<List<Sample>>,
+        url: &Text,
+        samples: &Option<List<Sample>>,
     ) -> Result<List<Report>, NoMemory>
-        ensures reports { IfOk result (λ reports. reports ≡ spec.page_report url ∷ []) }
+        ensures reports { IfOk result (λ reports. reports ≡ spec.page_report url.now ∷ []) }
         ensures served { OnOk result (self.new
-            ≡ record self.old { served = spec.with_page self.old.served url samples }) }
+            ≡ record self.old { served = spec.with_page self.old.served url.now samples.now }) }
         ensures err { OnErr result (self.new ≡ self.old) }
     {
-        let reports = page_reports(self.alloc, &url)?;
+        let reports = page_reports(self.alloc, url)?;
+        let samples = copy_page(self.alloc, samples)?;
         self.pages.set(url.as_str(), samples)?;
         Ok(reports)
     }
@@ -211,6 +213,32 @@ fn page_reports(alloc: Global, url: &Text) -> Result<List<Report>, NoMemory>
         view: View::Page { url: url.clone()? },
     })?;
     Ok(reports)
+}
+
+// An equal page.
+fn copy_page(
+    alloc: Global,
+    samples: &Option<List<Sample>>,
+) -> Result<Option<List<Sample>>, NoMemory>
+    ensures { IfOk result (λ copy. copy ≡ samples.now) }
+{
+    match samples {
+        Some(samples) => Ok(Some(copy_samples(alloc, samples.as_slice())?)),
+        None => Ok(None),
+    }
+}
+
+fn copy_samples(alloc: Global, samples: &[Sample]) -> Result<List<Sample>, NoMemory>
+    ensures { IfOk result (λ copy. copy ≡ samples.now) }
+{
+    let mut copy = List::new(alloc);
+    for sample in samples {
+        copy.push(Sample {
+            labels: sample.labels.copy()?,
+            value: sample.value,
+        })?;
+    }
+    Ok(copy)
 }
 
 fn no_config(alloc: Global) -> Config
