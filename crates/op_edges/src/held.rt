@@ -110,9 +110,11 @@ fn drop_front(buffer: &mut Vec<u8>, count: usize)
     requires { count ≤ vec_len buffer.old }
     ensures { buffer.new.items ≡ drop count buffer.old.items }
 {
-    let rest = buffer.len() - count;
-    buffer.copy_within(count.., 0);
-    buffer.truncate(rest);
+    if count > 0 {
+        let rest = buffer.len() - count;
+        buffer.copy_within(count.., 0);
+        buffer.truncate(rest);
+    }
 }
 
 /// Reads as many bytes as `chunk` has room for behind those of the buffer.
