@@ -121,7 +121,7 @@ fn take_page(
     ensures config { OnOk result (server.new.config ≡ server.old.config) }
     ensures named { IfOk result AreNamed }
 {
-    match server.event(&Event::Page(url, samples)) {
+    match server.take(Event::Page(url, samples)) {
         Ok(reports) => Ok(reports),
         Err(EventFault::NoMemory) => Err(NoMemory),
         Err(EventFault::LateTick(_)) => unreachable!(),
@@ -142,7 +142,7 @@ fn take_tick(
     ensures config { OnOk result (server.new.config ≡ server.old.config) }
     ensures named { IfOk result AreNamed }
 {
-    match server.event(&Event::Tick(t)) {
+    match server.take(Event::Tick(t)) {
         Ok(reports) => Ok(reports),
         Err(EventFault::LateTick(last)) => to_all(alloc, View::LateTick { last, line: number }),
         Err(EventFault::NoMemory) => Err(NoMemory),

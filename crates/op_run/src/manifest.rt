@@ -114,7 +114,7 @@ fn make_known(server: &mut Server, namespace: Text) -> Result<(), NoMemory>
     requires { is_namespace namespace ≡ true }
     ensures { OnOk result (server.new.served ≡ with_known server.old.served namespace) }
 {
-    match server.event(&Event::Known(namespace)) {
+    match server.take(Event::Known(namespace)) {
         Ok(_) => Ok(()),
         Err(EventFault::NoMemory) => Err(NoMemory),
         Err(EventFault::LateTick(_)) => unreachable!(),

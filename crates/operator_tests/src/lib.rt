@@ -17,6 +17,8 @@ mod rules;
 #[cfg(test)]
 mod scrapes;
 #[cfg(test)]
+mod server;
+#[cfg(test)]
 mod steps;
 #[cfg(test)]
 mod store;

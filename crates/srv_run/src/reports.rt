@@ -4,8 +4,8 @@ ghost use Rattle.srv_scrape.specs.Ticks.{by_labels};
 ghost use Rattle.srv_run.specs.Shares as spec;
 ghost use Rattle.srv_run.specs.Ticking.{told, shared_line, is_among};
 
-use crate::shares::{Shares, by_home, by_namespace, copy_of, home_of};
-use op_base::{Labels, List, Moment, NoMemory, Table, Text};
+use crate::shares::{Shares, by_home, by_namespace, copy_of};
+use op_base::{Labels, List, Moment, NAMESPACE_LABEL, NoMemory, Table, Text};
 use op_report::{Report, View};
 use srv_rule::FailedRule;
 use srv_store::{Entry, LabelMap};
@@ -16,27 +16,28 @@ use std::alloc::Global;
 pub fn tick_reports(
     alloc: Global,
     known: &Table<()>,
-    failed: &[FailedRule],
-    added: &[Entry],
+    failed: List<FailedRule>,
+    added: List<Entry>,
     t: Moment,
 ) -> Result<List<Report>, NoMemory>
     ensures { IfOk result (λ reports. reports
-        ≡ spec.tick_reports (keys_of known.now) (told failed.now added.now) t) }
+        ≡ spec.tick_reports (keys_of known.now) (told failed added) t) }
 {
+    let to_all = global_report(alloc, known, failed.as_slice(), added.as_slice(), t)?;
     let mut reports = tenant_reports(alloc, known, failed, added, t)?;
-    reports.push(global_report(alloc, known, failed, added, t)?)?;
+    reports.push(to_all)?;
     Ok(reports)
 }
 
 fn tenant_reports(
     alloc: Global,
     known: &Table<()>,
-    failed: &[FailedRule],
-    added: &[Entry],
+    failed: List<FailedRule>,
+    added: List<Entry>,
     t: Moment,
 ) -> Result<List<Report>, NoMemory>
     ensures { IfOk result (λ reports. reports
-        ≡ map (spec.tenant_report (told failed.now added.now) t) (keys_of known.now)) }
+        ≡ map (spec.tenant_report (told failed added) t) (keys_of known.now)) }
 {
     let rules = by_namespace(alloc, failed)?;
     let entries = by_home(alloc, added)?;
@@ -130,13 +131,12 @@ fn homeless(alloc: Global, known: &Table<()>, added: &[Entry]) -> Result<List<En
 {
     let mut entries = List::new(alloc);
     for entry in added {
-        push_homeless(alloc, &mut entries, known, entry)?;
+        push_homeless(&mut entries, known, entry)?;
     }
     Ok(entries)
 }
 
 fn push_homeless(
-    alloc: Global,
     entries: &mut List<Entry>,
     known: &Table<()>,
     entry: &Entry,
@@ -144,7 +144,7 @@ fn push_homeless(
     ensures { OnOk result (entries.new
         ≡ entries.old ++ spec.homeless (keys_of known.now) (entry.now ∷ [])) }
 {
-    if is_known(known, &home_of(alloc, &entry.labels)?) {
+    if is_known(known, entry.labels.value(NAMESPACE_LABEL)) {
         return Ok(());
     }
     entries.push(entry.copy()?)
@@ -172,16 +172,16 @@ fn push_elsewhere(
     ensures { OnOk result (rules.new
         ≡ rules.old ++ spec.failed_elsewhere (keys_of known.now) (rule.now ∷ [])) }
 {
-    if is_known(known, &rule.namespace) {
+    if is_known(known, rule.namespace.as_str()) {
         return Ok(());
     }
     rules.push(copy_of(rule)?)
 }
 
-fn is_known(known: &Table<()>, name: &Text) -> bool
+fn is_known(known: &Table<()>, name: &str) -> bool
     ensures { result ≡ is_among (keys_of known.now) name.now }
 {
-    match known.get(name.as_str()) {
+    match known.get(name) {
         Some(_) => true,
         None => false,
     }

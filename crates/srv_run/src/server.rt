@@ -83,6 +83,29 @@ impl Server {
 
     /// Takes an event, and says what it gives. A tick that isn't above the last one is late, and
     /// changes nothing. After want of memory a part of a tick's entries may be stored.
+    pub fn take(&mut self, event: Event) -> Result<List<Report>, EventFault>
+        requires { spec.IsFit event }
+        ensures reports { IfOk result (λ reports. reports
+            ≡ spec.reports_of self.old.config self.old.served event) }
+        ensures served { OnOk result (self.new
+            ≡ record self.old { served = spec.served_after self.old.config self.old.served event }) }
+        ensures named { IfOk result AreNamed }
+        ensures early { OnOk result (spec.late_event self.old.served event ≡ None) }
+        ensures late { IfErr result (λ fault. (last : _) → fault ≡ EventFault.LateTick last
+            → spec.late_event self.old.served event ≡ Some last) }
+        ensures late_leaves { IfErr result (λ fault. (last : _) → fault ≡ EventFault.LateTick last
+            → self.new ≡ self.old) }
+        ensures cut_off { OnErr result (spec.IsCutOff self.old self.new
+            (spec.served_after self.old.config self.old.served event)) }
+    {
+        match event {
+            Event::Known(namespace) => Ok(self.know(namespace)?),
+            Event::Page(url, samples) => Ok(self.take_page(url, samples)?),
+            Event::Tick(t) => self.tick(t),
+        }
+    }
+
+    /// As [`Server::take`], of a copy of the event.
     pub fn event(&mut self, event: &Event) -> Result<List<Report>, EventFault>
         requires { spec.IsFit event.now }
         ensures reports { IfOk result (λ reports. reports
@@ -99,25 +122,50 @@ impl Server {
             (spec.served_after self.old.config self.old.served event.now)) }
     {
         match event {
-            Event::Known(namespace) => Ok(self.know(namespace)?),
-            Event::Page(url, samples) => Ok(self.take_page(url, samples)?),
+            Event::Known(namespace) => Ok(self.know_copy(namespace)?),
+            Event::Page(url, samples) => Ok(self.copy_page(url, samples)?),
             Event::Tick(t) => self.tick(*t),
         }
     }
 
-    fn know(&mut self, namespace: &Text) -> Result<List<Report>, NoMemory>
+    fn know(&mut self, namespace: Text) -> Result<List<Report>, NoMemory>
+        requires { is_namespace namespace ≡ true }
+        ensures reports { IfOk result (λ reports. reports ≡ []) }
+        ensures served { OnOk result (self.new
+            ≡ record self.old { served = spec.with_known self.old.served namespace }) }
+        ensures err { OnErr result (self.new ≡ self.old) }
+    {
+        self.known.insert(namespace, ())?;
+        Ok(List::new(self.alloc))
+    }
+
+    fn know_copy(&mut self, namespace: &Text) -> Result<List<Report>, NoMemory>
         requires { is_namespace namespace.now ≡ true }
         ensures reports { IfOk result (λ reports. reports ≡ []) }
         ensures served { OnOk result (self.new
             ≡ record self.old { served = spec.with_known self.old.served namespace.now }) }
         ensures err { OnErr result (self.new ≡ self.old) }
     {
-        let name = Text::from_str(self.alloc, namespace.as_str())?;
-        self.known.insert(name, ())?;
-        Ok(List::new(self.alloc))
+        let namespace = namespace.clone()?;
+        self.know(namespace)
     }
 
     fn take_page(
+        &mut self,
+        url: Text,
+        samples: Option<List<Sample>>,
+    ) -> Result<List<Report>, NoMemory>
+        ensures reports { IfOk result (λ reports. reports ≡ spec.page_report url ∷ []) }
+        ensures served { OnOk result (self.new
+            ≡ record self.old { served = spec.with_page self.old.served url samples }) }
+        ensures err { OnErr result (self.new ≡ self.old) }
+    {
+        let reports = page_reports(self.alloc, &url)?;
+        self.pages.set(url.as_str(), samples)?;
+        Ok(reports)
+    }
+
+    fn copy_page(
         &mut self,
         url: &Text,
         samples: &Option<List<Sample>>,
@@ -127,10 +175,9 @@ impl Server {
             ≡ record self.old { served = spec.with_page self.old.served url.now samples.now }) }
         ensures err { OnErr result (self.new ≡ self.old) }
     {
-        let reports = page_reports(self.alloc, url)?;
-        let samples = copy_page(self.alloc, samples)?;
-        self.pages.set(url.as_str(), samples)?;
-        Ok(reports)
+        let samples = samples_copied(self.alloc, samples)?;
+        let url = url.clone()?;
+        self.take_page(url, samples)
     }
 
     fn tick(&mut self, t: Moment) -> Result<List<Report>, EventFault>
@@ -174,13 +221,7 @@ impl Server {
             &self.states,
             t,
         )?;
-        let reports = tick_reports(
-            self.alloc,
-            &self.known,
-            failed.as_slice(),
-            added.as_slice(),
-            t,
-        )?;
+        let reports = tick_reports(self.alloc, &self.known, failed, added, t)?;
         self.scraped = scraped;
         self.states = states;
         self.last = Some(t);
@@ -216,7 +257,7 @@ fn page_reports(alloc: Global, url: &Text) -> Result<List<Report>, NoMemory>
 }
 
 // An equal page.
-fn copy_page(
+fn samples_copied(
     alloc: Global,
     samples: &Option<List<Sample>>,
 ) -> Result<Option<List<Sample>>, NoMemory>

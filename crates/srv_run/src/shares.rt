@@ -12,35 +12,32 @@ use std::alloc::Global;
 pub type Shares<T> = OrderedMap<Text, List<T>>;
 
 /// The entries by the namespaces that their labels name.
-pub fn by_home(alloc: Global, entries: &[Entry]) -> Result<Shares<Entry>, NoMemory>
-    ensures { IfOk result (λ shares. shares ≡ grouped text_cmp spec.home_of entries.now) }
+pub fn by_home(alloc: Global, entries: List<Entry>) -> Result<Shares<Entry>, NoMemory>
+    ensures { IfOk result (λ shares. shares ≡ grouped text_cmp spec.home_of entries) }
 {
     let mut shares = OrderedMap::new(alloc);
-    for entry in entries {
-        shares.add(alloc, home_of(alloc, &entry.labels)?, entry.copy()?)?;
+    for entry in entries.into_vec() {
+        shares.add(alloc, home_of(alloc, &entry.labels)?, entry)?;
     }
     Ok(shares)
 }
 
 /// The failed rules by their objects' namespaces.
-pub fn by_namespace(alloc: Global, failed: &[FailedRule]) -> Result<Shares<FailedRule>, NoMemory>
-    ensures { IfOk result (λ shares. shares ≡ grouped text_cmp spec.place_of failed.now) }
+pub fn by_namespace(alloc: Global, failed: List<FailedRule>) -> Result<Shares<FailedRule>, NoMemory>
+    ensures { IfOk result (λ shares. shares ≡ grouped text_cmp spec.place_of failed) }
 {
     let mut shares = OrderedMap::new(alloc);
-    for rule in failed {
-        shares.add(alloc, rule.namespace.clone()?, copy_of(rule)?)?;
+    for rule in failed.into_vec() {
+        shares.add(alloc, rule.namespace.clone()?, rule)?;
     }
     Ok(shares)
 }
 
-/// The namespace that the labels name, or the empty text.
-pub fn home_of(alloc: Global, labels: &Labels) -> Result<Text, NoMemory>
+// The namespace that the labels name, or the empty text.
+fn home_of(alloc: Global, labels: &Labels) -> Result<Text, NoMemory>
     ensures { IfOk result (λ home. home ≡ label_value labels.now NAMESPACE_LABEL.now) }
 {
-    match labels.get(NAMESPACE_LABEL) {
-        Some(home) => Text::from_str(alloc, home),
-        None => Ok(Text::new(alloc)),
-    }
+    Text::from_str(alloc, labels.value(NAMESPACE_LABEL))
 }
 
 /// An equal failed rule.

@@ -1,13 +1,10 @@
 -- A name that is found is known.
 use Rattle.std.proofs.Common.{ap, is_some, ◌∙◌}
-use Rattle.op_base.specs.Maps.{value_at}
 use Rattle.srv_run.proofs.KnownLemmas.{found-among}
 use Rattle.srv_run.proofs.reports.is_known.Goals as goal
 
 pub returns-in-Some : goal.returns-in-Some
-returns-in-Some c = ap is_some c.in-Some.ensures ∙ ap (λ name. is_some (value_at c.args.known.now name)) c.as_str.ensures
-    ∙ found-among c.args.known.now c.args.name.now
+returns-in-Some c = ap is_some c.in-Some.ensures ∙ found-among c.args.known.now c.args.name.now
 
 pub returns-in-None : goal.returns-in-None
-returns-in-None c = ap is_some c.in-None.ensures ∙ ap (λ name. is_some (value_at c.args.known.now name)) c.as_str.ensures
-    ∙ found-among c.args.known.now c.args.name.now
+returns-in-None c = ap is_some c.in-None.ensures ∙ found-among c.args.known.now c.args.name.now

@@ -6,6 +6,6 @@ use Rattle.srv_run.proofs.reports.tenant_reports.Goals as goal
 
 pub returns : goal.returns
 returns c = IfOk-weaker c.shared_reports.result _ _
-    (λ reports is. told_lines c.args.failed.now c.args.added.now c.args.t c.in_ok-rules.rules c.in_ok-entries.entries c.as_slice.result.now _ reports
+    (λ reports is. told_lines c.args.failed c.args.added c.args.t c.in_ok-rules.rules c.in_ok-entries.entries c.as_slice.result.now _ reports
     c.in_ok-rules.ensures c.in_ok-entries.ensures (c.as_slice.ensures ∙ c.in_ok-names.ensures.keys) is)
     c.shared_reports.ensures

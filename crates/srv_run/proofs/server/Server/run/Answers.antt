@@ -14,15 +14,14 @@ use Rattle.srv_run.proofs.server.Server.run.Goals as goal
 
 pub returns-clause-named : goal.returns-clause-named
 returns-clause-named c = subst AreNamed (sym c.in_ok-reports.ensures)
-    (lines-named (keys_of c.self.inside.known) (keys_of c.self.inside.known) (told c.as_slice.result.now c.as_slice-2.result.now) c.args.t c.self.invariant.0)
+    (lines-named (keys_of c.self.inside.known) (keys_of c.self.inside.known) (told c.in_ok-scraped.failed c.in_ok-scraped.added) c.args.t c.self.invariant.0)
 
 pub returns-clause-reports : goal.returns-clause-reports
 returns-clause-reports c =
     subst (λ (s : Serving). c.in_ok-reports.reports ≡ tick_reports (keys_of s.served.known) (tick_of s.config s.served c.args.t) c.args.t) c.self.view_is
     (c.in_ok-reports.ensures
-    ∙ ap (λ failed. tick_reports (keys_of c.self.inside.known) (told failed c.as_slice-2.result.now) c.args.t) c.as_slice.ensures
     ∙ ap (λ added. tick_reports (keys_of c.self.inside.known) (told c.in_ok-scraped.failed added) c.args.t)
-    (c.as_slice-2.ensures ∙ sym (ap (drop (length c.self.inside.store)) c.in_ok-scraped.ensures.added ∙ drop_at c.self.inside.store c.in_ok-scraped.added (length c.self.inside.store) refl))
+    (sym (ap (drop (length c.self.inside.store)) c.in_ok-scraped.ensures.added ∙ drop_at c.self.inside.store c.in_ok-scraped.added (length c.self.inside.store) refl))
     ∙ ap (λ (k : Ticked). tick_reports (keys_of c.self.inside.known) k c.args.t) c.in_ok-scraped.ensures.ok)
 
 pub returns-in_err-reports-clause-cut_off : goal.returns-in_err-reports-clause-cut_off
