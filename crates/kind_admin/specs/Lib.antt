@@ -1,0 +1,9 @@
+pub mod AdminObjects
+pub mod AlertmanagerTables
+pub mod Secrets
+pub mod Namespaces
+pub mod PrometheusObjects
+pub mod PrometheusTables
+pub mod Choices
+pub mod Exclusions
+pub mod OpenTables

@@ -1,0 +1,14 @@
+pub mod Trees
+pub mod Shapes
+pub mod Checks
+pub mod Values
+pub mod Maps
+pub mod Optional
+pub mod Namespaces
+pub mod Parts
+pub mod References
+pub mod Selectors
+pub mod Heads
+pub mod Routes
+pub mod AmSpecs
+pub mod Files
