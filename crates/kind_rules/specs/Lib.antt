@@ -1,3 +1,5 @@
 pub mod Expressions
 pub mod RuleTables
+pub mod PrometheusRules
+pub mod AlertmanagerConfigs
 pub mod RuleObjects

@@ -1,25 +1,26 @@
--- PrometheusRule objects: the head of the manifest, then `spec`, which has to stand.
-use Rattle.std.specs.Prelude.{List, [], ◌++◌, codes, unwrap_or}
-use Rattle.serde_json.specs.Data.{Data, null}
+-- A tenant's rules and routes, each object read as its kind.
+use Rattle.std.specs.Prelude.{Bool, true, false, List, Option, Some}
+use Rattle.serde_json.specs.Data.{Data}
+use Rattle.op_base.specs.declared.kind.Kind.{Kind}
+use Rattle.op_base.specs.declared.kind.Kind.TheVariants.{PrometheusRule, AlertmanagerConfig}
 use Rattle.op_manifest.specs.declared.shape.Shape.{Shape}
-use Rattle.op_manifest.specs.Checks.{field, required, table}
-use Rattle.op_manifest.specs.Heads.{head_wrongs, key_of, tags_of}
 use Rattle.kind_rules.specs.declared.object.RuleObject.{RuleObject}
-use Rattle.kind_rules.specs.declared.rule_set.RuleSet.{RuleSet}
-use Rattle.kind_rules.specs.RuleTables.{rule_set_rows, rule_set_of}
+use Rattle.kind_rules.specs.declared.object.RuleObject.TheVariants.{Rules, Routes}
+use Rattle.kind_rules.specs.AlertmanagerConfigs.{alertmanager_config_wrongs, alertmanager_config_of}
+use Rattle.kind_rules.specs.PrometheusRules.{prometheus_rule_wrongs, prometheus_rule_of}
 
--- all that can be wrong with `spec`
-abbrev pub spec_wrongs : Data → List Shape
-spec_wrongs d = required (table rule_set_rows) (codes "spec") [] d
+-- the kind is one of these
+abbrev pub is_rule_kind : Option Kind → Bool
+is_rule_kind (Some PrometheusRule) = true
+is_rule_kind (Some AlertmanagerConfig) = true
+is_rule_kind _ = false
 
--- what `spec` is read as
-abbrev pub spec_of : Data → RuleSet
-spec_of d = rule_set_of (unwrap_or (field (codes "spec") d) null)
+-- all that can be wrong with an object of the kind
+abbrev pub rules_wrongs : Option Kind → Data → List Shape
+rules_wrongs (Some PrometheusRule) d = prometheus_rule_wrongs d
+rules_wrongs _ d = alertmanager_config_wrongs d
 
--- all that can be wrong with an object
-abbrev pub rules_wrongs : Data → List Shape
-rules_wrongs d = head_wrongs [] d ++ spec_wrongs d
-
--- an object
-abbrev pub rules_of : Data → RuleObject
-rules_of d = record { key = key_of d; tags = tags_of d; groups = (spec_of d).groups }
+-- an object of the kind
+abbrev pub rules_of : Option Kind → Data → RuleObject
+rules_of (Some PrometheusRule) d = Rules (prometheus_rule_of d)
+rules_of _ d = Routes (alertmanager_config_of d)

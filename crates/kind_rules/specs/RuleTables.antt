@@ -8,7 +8,7 @@ use Rattle.op_manifest.specs.Maps.{texts, map_in}
 use Rattle.op_manifest.specs.Values.{text_in, span_in, items_in}
 use Rattle.kind_rules.specs.declared.rule.Rule.{Rule}
 use Rattle.kind_rules.specs.declared.group.RuleGroup.{RuleGroup}
-use Rattle.kind_rules.specs.declared.rule_set.RuleSet.{RuleSet}
+use Rattle.kind_rules.specs.declared.prometheus_rule_spec.PrometheusRuleSpec.{PrometheusRuleSpec}
 use Rattle.kind_rules.specs.Expressions.{expression, expression_in}
 use Rattle.op_manifest.specs.Optional.{interval_in}
 
@@ -54,9 +54,9 @@ group_of d =
     }
 
 -- the fields of `spec`
-abbrev pub rule_set_rows : List Row
-rule_set_rows = may (codes "groups") (list (table group_rows)) ∷ []
+abbrev pub prometheus_rule_rows : List Row
+prometheus_rule_rows = may (codes "groups") (list (table group_rows)) ∷ []
 
 -- what `spec` is read as
-unfoldable pub rule_set_of : Data → RuleSet
-rule_set_of d = record { groups = unwrap_or (items_in group_of (codes "groups") d) [] }
+unfoldable pub prometheus_rule_spec_of : Data → PrometheusRuleSpec
+prometheus_rule_spec_of d = record { groups = unwrap_or (items_in group_of (codes "groups") d) [] }

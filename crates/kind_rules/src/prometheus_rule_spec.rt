@@ -5,27 +5,27 @@ use std::alloc::Global;
 
 /// What a PrometheusRule object asks for.
 #[derive(Debug, PartialEq, Eq, Drop)]
-pub struct RuleSet {
+pub struct PrometheusRuleSpec {
     pub groups: List<RuleGroup>,
 }
 
-impl Item for RuleSet {
+impl Item for PrometheusRuleSpec {
     ghost use Rattle.op_manifest.specs.Checks.{table};
     ghost use Rattle.kind_rules.specs.RuleTables as spec;
 
-    ghost wrongs = { table spec.rule_set_rows };
+    ghost wrongs = { table spec.prometheus_rule_rows };
 
-    ghost of = { spec.rule_set_of };
+    ghost of = { spec.prometheus_rule_spec_of };
 
     fn read(
         found: &mut Option<Shape>,
         alloc: Global,
         tree: &Tree,
         path: &str,
-    ) -> Result<RuleSet, NoMemory> {
+    ) -> Result<PrometheusRuleSpec, NoMemory> {
         noted_known(found, alloc, tree, &["groups"], path)?;
         let groups = noted_items(found, alloc, tree, "groups", path)?;
-        Ok(RuleSet {
+        Ok(PrometheusRuleSpec {
             groups: or_none(alloc, groups),
         })
     }
