@@ -3,7 +3,7 @@
 use Rattle.std.specs.Prelude.{ℕ, pos, List, [], ◌∷◌, ◌++◌, ◌==◌, map, codes, if◌then◌else◌}
 use Rattle.op_json.specs.Json.{Json, text, whole, array_of, object_of}
 use Rattle.op_relabel.specs.declared.step.Action.{Action}
-use Rattle.op_relabel.specs.declared.step.Action.TheVariants.{Replace}
+use Rattle.op_relabel.specs.declared.step.Action.TheVariants.{Replace, Keep, Drop, KeepEqual, DropEqual, HashMod, LabelMap, LabelDrop, LabelKeep, Lowercase, Uppercase}
 use Rattle.op_relabel.specs.declared.step.Step.{Step}
 use Rattle.op_relabel.specs.Steps.{default_separator, default_pattern, default_replacement, default_modulus}
 use Rattle.cfg_types.specs.Texts.{list_field, text_unless}
@@ -11,6 +11,16 @@ use Rattle.cfg_types.specs.Texts.{list_field, text_unless}
 -- how an action is written
 abbrev pub action_text : Action → List ℕ
 action_text Replace = codes "replace"
+action_text Keep = codes "keep"
+action_text Drop = codes "drop"
+action_text KeepEqual = codes "keepequal"
+action_text DropEqual = codes "dropequal"
+action_text HashMod = codes "hashmod"
+action_text LabelMap = codes "labelmap"
+action_text LabelDrop = codes "labeldrop"
+action_text LabelKeep = codes "labelkeep"
+action_text Lowercase = codes "lowercase"
+action_text Uppercase = codes "uppercase"
 
 -- the field `modulus`, which isn't written where it is the default
 abbrev pub modulus_field : ℕ → List (List ℕ × Json)

@@ -75,6 +75,16 @@ fn action_text(action: Action) -> &'static str
 {
     match action {
         Action::Replace => "replace",
+        Action::Keep => "keep",
+        Action::Drop => "drop",
+        Action::KeepEqual => "keepequal",
+        Action::DropEqual => "dropequal",
+        Action::HashMod => "hashmod",
+        Action::LabelMap => "labelmap",
+        Action::LabelDrop => "labeldrop",
+        Action::LabelKeep => "labelkeep",
+        Action::Lowercase => "lowercase",
+        Action::Uppercase => "uppercase",
     }
 }
 

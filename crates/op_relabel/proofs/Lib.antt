@@ -1,1 +1,4 @@
+pub mod CheckLemmas
+pub mod LabelLemmas
+pub mod MapLemmas
 pub mod RelabelLemmas

@@ -8,7 +8,8 @@ use Rattle.op_base.specs.Matchers.{label_value}
 use Rattle.op_base.specs.Patterns.{IsPattern, written_whole}
 use Rattle.op_relabel.specs.declared.step.Step.{Step}
 use Rattle.op_relabel.specs.Steps.{default_pattern, default_replacement, is_no_dollar, copy_step, put_step}
-use Rattle.op_relabel.specs.Relabelled.{after_step, relabelled, HasPatterns, step_text}
+use Rattle.op_relabel.specs.Actions.{step_text}
+use Rattle.op_relabel.specs.Relabelled.{after_step, relabelled}
 
 taken : {A : Type 0} (t : Bool) (a b : A) → t ≡ true → cond t a b ≡ a
 taken t a b is = ap (λ x. cond x a b) is
@@ -65,8 +66,3 @@ relabelled-append (step ∷ steps) more labels = rest (relabelled-append steps m
         → option_and_then (relabelled (steps ++ more)) o ≡ option_and_then (relabelled more) (option_and_then (relabelled steps) o)
     rest alike None = refl
     rest alike (Some left) = alike left
-
--- steps with patterns, and one more
-pub patterns_and_one : (steps : List Step) (step : Step) → HasPatterns steps → IsPattern step.pattern → HasPatterns (steps ++ step ∷ [])
-patterns_and_one [] step have is = (is, tt)
-patterns_and_one (first ∷ steps) step have is = (have.0, patterns_and_one steps step have.1 is)

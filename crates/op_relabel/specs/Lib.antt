@@ -1,2 +1,4 @@
 pub mod Relabelled
+pub mod Actions
+pub mod Checks
 pub mod Steps

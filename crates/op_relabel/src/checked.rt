@@ -1,15 +1,15 @@
-ghost use Rattle.std.specs.Prelude.{◌≡◌, ◌++◌, ◌∷◌, [], IsTrue, ◌↔◌, None, Err, OnOk, OnErr};
-ghost use Rattle.op_base.specs.Patterns.{IsPattern, meaning_of};
-ghost use Rattle.op_relabel.specs.Relabelled.{HasPatterns};
+ghost use Rattle.std.specs.Prelude.{◌≡◌, ◌≢◌, ◌++◌, ◌∷◌, [], IsTrue, ◌↔◌, Some, true, IfErr, OnOk, OnErr};
+ghost use Rattle.op_base.specs.Names.{is_label_name};
+ghost use Rattle.op_relabel.specs.Checks as checks;
 ghost use Rattle.op_relabel.specs.Steps as spec;
 
+use crate::checking::{StepFault, check};
 use crate::step::Step;
-use op_base::{List, NoMemory, Pattern, PatternFault};
+use op_base::{List, NoMemory};
 use std::alloc::Global;
 use std::marker::Model;
 
-/// Steps of which each has a pattern that was found to be one, so that they can be run. Contracts see
-/// the list of the steps.
+/// Steps that were checked, so that they can be run. Contracts see the list of the steps.
 #[derive(Debug, PartialEq, Eq, Drop)]
 pub struct CheckedSteps {
     steps: List<Step>,
@@ -18,13 +18,13 @@ pub struct CheckedSteps {
 impl Model for CheckedSteps {
     ghost use Rattle.std.specs.Prelude as seen;
     ghost use Rattle.op_relabel.specs.declared.step.Step.{Step as Seen};
-    ghost use Rattle.op_relabel.specs.Relabelled.{HasPatterns};
+    ghost use Rattle.op_relabel.specs.Checks.{AllPass};
 
     ghost Value = { seen.List Seen };
 
     ghost view = { λ it. it.steps };
 
-    ghost invariant = { λ it. HasPatterns it.steps };
+    ghost invariant = { λ it. AllPass it.steps };
 
     ghost inverse = { λ steps. record { steps = steps } };
 }
@@ -47,26 +47,26 @@ impl CheckedSteps {
 
     pub fn as_slice(&self) -> &[Step]
         ensures steps { result.now ≡ self.now }
-        ensures patterns { HasPatterns self.now }
+        ensures passes { checks.AllPass self.now }
     {
         self.steps.as_slice()
     }
 
-    /// Adds the step, where its pattern is one. Where `regex` finds the pattern too large, the answer
-    /// is `NoMemory` too.
-    pub fn push(&mut self, alloc: Global, step: Step) -> Result<(), PatternFault>
+    /// Adds the step, where [`check`] lets it pass.
+    pub fn push(&mut self, alloc: Global, step: Step) -> Result<(), StepFault>
         ensures ok { OnOk result (self.new ≡ self.old ++ step ∷ []) }
-        ensures pattern { OnOk result (IsPattern step.pattern) }
-        ensures refused { result ≡ Err PatternFault.BadPattern → meaning_of step.pattern ≡ None }
+        ensures passes { OnOk result (checks.Passes step) }
+        ensures refused { IfErr result (λ fault. fault ≢ StepFault.NoMemory → checks.first_fault step ≡ Some fault) }
         ensures err { OnErr result (self.new ≡ self.old) }
     {
-        let _read = Pattern::read(alloc, step.pattern.as_str())?;
+        check(alloc, &step)?;
         self.add(step)?;
         Ok(())
     }
 
     /// Adds the step that gives the value of the label `source` to the label `target`.
     pub fn copy_label(&mut self, alloc: Global, source: &str, target: &str) -> Result<(), NoMemory>
+        requires { is_label_name target.now ≡ true }
         ensures ok { OnOk result (self.new ≡ self.old ++ spec.copy_step source.now target.now ∷ []) }
         ensures err { OnErr result (self.new ≡ self.old) }
     {
@@ -76,6 +76,7 @@ impl CheckedSteps {
 
     /// Adds the step that gives a value to the label `target`, as [`Step::put_value`] has it.
     pub fn put_value(&mut self, alloc: Global, target: &str, value: &str) -> Result<(), NoMemory>
+        requires { is_label_name target.now ≡ true }
         ensures ok { OnOk result (self.new ≡ self.old ++ spec.put_step target.now value.now ∷ []) }
         ensures err { OnErr result (self.new ≡ self.old) }
     {
@@ -84,7 +85,7 @@ impl CheckedSteps {
     }
 
     fn add(&mut self, step: Step) -> Result<(), NoMemory>
-        requires { IsPattern step.pattern }
+        requires { checks.Passes step }
         ensures ok { OnOk result (self.new ≡ self.old ++ step ∷ []) }
         ensures err { OnErr result (self.new ≡ self.old) }
     {

@@ -1,17 +1,17 @@
 //! Relabelling and scraping of one thing by itself: a run prepares a job's steps for many.
 
 ghost use Rattle.std.specs.Prelude.{IfOk};
-ghost use Rattle.op_relabel.specs.Relabelled.{HasPatterns};
+ghost use Rattle.op_relabel.specs.Checks.{AllPass};
 
 use crate::things::{is_so, label, text};
 use cfg_types::{Job, StaticConfig};
-use op_base::{List, Moment, NoMemory, PatternFault, Span, Tags};
-use op_relabel::{CheckedSteps, Step, relabel};
+use op_base::{List, Moment, NoMemory, Span, Tags};
+use op_relabel::{CheckedSteps, Step, StepFault, relabel};
 use srv_scrape::{Pages, Target, scrape};
 use std::alloc::Global;
 
 fn copying(alloc: Global) -> Result<List<Step>, NoMemory>
-    ensures { IfOk result HasPatterns }
+    ensures { IfOk result AllPass }
 {
     let mut steps = List::new(alloc);
     steps.push(Step::copy_label(alloc, "a", "b")?)?;
@@ -32,8 +32,8 @@ fn is_taken(alloc: Global, pattern: &str) -> Result<bool, NoMemory> {
     let mut steps = CheckedSteps::new(alloc);
     match steps.push(alloc, step) {
         Ok(()) => Ok(true),
-        Err(PatternFault::BadPattern) => Ok(false),
-        Err(PatternFault::NoMemory) => Err(NoMemory),
+        Err(StepFault::NoMemory) => Err(NoMemory),
+        Err(_) => Ok(false),
     }
 }
 

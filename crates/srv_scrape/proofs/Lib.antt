@@ -1,3 +1,2 @@
 pub mod ExportLemmas
-pub mod LabelLemmas
 pub mod ListLemmas

@@ -2,7 +2,7 @@ use Rattle.std.proofs.Common.{◌∙◌, [], ap, length, filter, arith, ◌≤�
 use Rattle.std.proofs.lemmas.List.{take_all}
 use Rattle.op_base.specs.Labels.{labels_with_all}
 use Rattle.srv_scrape.specs.Targets as spec
-use Rattle.srv_scrape.proofs.LabelLemmas.{rebuilt}
+use Rattle.op_relabel.proofs.LabelLemmas.{rebuilt}
 use Rattle.srv_scrape.proofs.discovery.own_labels.Goals as goal
 
 pub returns : goal.returns
