@@ -1,5 +1,5 @@
 -- The JSON of a configuration; the bytes that are written for it are its compact text.
-use Rattle.std.specs.Prelude.{ℕ, List, [], ◌∷◌, ◌++◌, map, codes}
+use Rattle.std.specs.Prelude.{ℕ, List, [], ◌∷◌, ◌++◌, Option, Some, None, IfSome, map, codes}
 use Rattle.std.specs.List.{AllByRecursion}
 use Rattle.op_json.specs.Json.{Json, null, text, array_of, object_of, json_text}
 use Rattle.cfg_types.specs.declared.config.Config.{Config}
@@ -37,9 +37,14 @@ global_json part = object_of
     ∷ [])
 
 -- {"global":GLOBAL,"scrape_configs":[JOB]}
-abbrev pub prometheus_json : PromPart → Json
-prometheus_json part = object_of
+abbrev pub part_json : PromPart → Json
+part_json part = object_of
     ((codes "global", global_json part) ∷ (codes "scrape_configs", array_of (map job_json part.jobs)) ∷ [])
+
+-- the part, or null where there is none
+abbrev pub prometheus_json : Option PromPart → Json
+prometheus_json None = null
+prometheus_json (Some part) = part_json part
 
 -- {"alertmanager":null,"prometheus":PART,"rules":{FILE:{"groups":[GROUP]}}}
 abbrev pub config_json : Config → Json
@@ -61,4 +66,4 @@ HasPartSpans part =
 
 -- all spans of a configuration have texts
 abbrev pub HasSpans : Config → Type 0
-HasSpans config = HasPartSpans config.prometheus
+HasSpans config = IfSome config.prometheus HasPartSpans

@@ -1,3 +1,6 @@
+ghost use Rattle.std.specs.Prelude.{◌≡◌};
+ghost use Rattle.cfg_types.specs.Jobs as spec;
+
 use crate::job::Job;
 use op_base::{List, Span, Tags, Text};
 use ql_tree::Expr;
@@ -5,9 +8,22 @@ use ql_tree::Expr;
 /// What one Prometheus and one Alertmanager are configured with.
 #[derive(Debug, PartialEq, Eq, Drop)]
 pub struct Config {
-    pub prometheus: PromPart,
+    /// None where there is no Prometheus object.
+    pub prometheus: Option<PromPart>,
     /// In the order of the files' texts `NAMESPACE/NAME`.
     pub rules: List<RuleFile>,
+}
+
+impl Config {
+    /// The jobs. Without a Prometheus there are none.
+    pub fn jobs(&self) -> &[Job]
+        ensures { result.now ≡ spec.jobs_of self.now }
+    {
+        match &self.prometheus {
+            Some(part) => part.jobs.as_slice(),
+            None => &[],
+        }
+    }
 }
 
 /// The global part of Prometheus, and its jobs.

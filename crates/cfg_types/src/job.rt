@@ -11,6 +11,8 @@ pub struct Job {
     pub metrics_path: Text,
     /// The steps that each target's labels go through.
     pub relabel_configs: CheckedSteps,
+    /// How many samples a scrape may leave; 0 and none set no limit.
+    pub sample_limit: Option<u64>,
     pub scheme: Text,
     pub scrape_interval: Span,
     pub scrape_timeout: Span,

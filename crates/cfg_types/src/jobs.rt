@@ -1,7 +1,8 @@
-ghost use Rattle.std.specs.Prelude.{◌≡◌, ◌∷◌, [], map, IfOk, OnOk};
+ghost use Rattle.std.specs.Prelude.{◌≡◌, ◌∷◌, [], pos, map, IfOk, OnOk};
 ghost use Rattle.std.specs.List.{AllByRecursion};
+ghost use Rattle.serde_json.specs.Data.{put};
 ghost use Rattle.serde_json.specs.View as shown;
-ghost use Rattle.op_json.specs.Json.{data_of, array_of, members_after, fields_of};
+ghost use Rattle.op_json.specs.Json.{whole, data_of, array_of, members_after, fields_of};
 ghost use Rattle.cfg_types.specs.Jobs as spec;
 
 use crate::job::{Job, StaticConfig};
@@ -50,7 +51,7 @@ fn job_value(alloc: Global, job: &Job) -> Result<Value, NoMemory>
         job.metrics_path.as_str(),
     )?;
     put_steps(&mut fields, alloc, "relabel_configs", &job.relabel_configs)?;
-    put_scrape(&mut fields, alloc, job)?;
+    put_rest(&mut fields, alloc, job)?;
     Ok(Value::Object(fields))
 }
 
@@ -60,6 +61,17 @@ fn put_names(fields: &mut Map<String, Value>, alloc: Global, job: &Job) -> Resul
 {
     put_field(fields, alloc, "honor_labels", Value::Bool(job.honor_labels))?;
     put_text(fields, alloc, "job_name", job.job_name.as_str())
+}
+
+// Puts the sample limit and what stands behind it.
+#[tactic(auto, using(op_json::proofs::Fields::after_append))]
+fn put_rest(fields: &mut Map<String, Value>, alloc: Global, job: &Job) -> Result<(), NoMemory>
+    requires { spec.HasJobSpans job.now }
+    ensures { OnOk result (shown.members_view fields.new.entries
+        ≡ members_after (shown.members_view fields.old.entries) (fields_of (spec.rest_fields job.now))) }
+{
+    put_limit(fields, alloc, job.sample_limit)?;
+    put_scrape(fields, alloc, job)
 }
 
 fn put_scrape(fields: &mut Map<String, Value>, alloc: Global, job: &Job) -> Result<(), NoMemory>
@@ -72,6 +84,33 @@ fn put_scrape(fields: &mut Map<String, Value>, alloc: Global, job: &Job) -> Resu
     put_span(fields, alloc, "scrape_interval", job.scrape_interval)?;
     put_span(fields, alloc, "scrape_timeout", job.scrape_timeout)?;
     put_field(fields, alloc, "static_configs", targets)
+}
+
+// Puts the sample limit as a field, where there is one.
+fn put_limit(
+    fields: &mut Map<String, Value>,
+    alloc: Global,
+    limit: Option<u64>,
+) -> Result<(), NoMemory>
+    ensures { OnOk result (shown.members_view fields.new.entries
+        ≡ members_after (shown.members_view fields.old.entries) (fields_of (spec.limit_field limit))) }
+{
+    match limit {
+        Some(limit) => put_number(fields, alloc, "sample_limit", limit),
+        None => Ok(()),
+    }
+}
+
+fn put_number(
+    fields: &mut Map<String, Value>,
+    alloc: Global,
+    name: &str,
+    number: u64,
+) -> Result<(), NoMemory>
+    ensures { OnOk result (shown.members_view fields.new.entries
+        ≡ put name.now (data_of (whole (pos number))) (shown.members_view fields.old.entries)) }
+{
+    put_field(fields, alloc, name, Value::from(number))
 }
 
 fn static_array(alloc: Global, config: &StaticConfig) -> Result<Value, NoMemory>

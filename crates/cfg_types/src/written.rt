@@ -1,4 +1,4 @@
-ghost use Rattle.std.specs.Prelude.{◌≡◌, map, IfOk, OnOk};
+ghost use Rattle.std.specs.Prelude.{◌≡◌, map, IfOk, IfSome, OnOk};
 ghost use Rattle.serde_json.specs.Data.{put};
 ghost use Rattle.serde_json.specs.View as shown;
 ghost use Rattle.op_json.specs.Json.{data_of, object_of, array_of};
@@ -37,9 +37,19 @@ fn config_value(alloc: Global, config: &Config) -> Result<Value, NoMemory>
     Ok(Value::Object(fields))
 }
 
-fn prometheus_value(alloc: Global, part: &PromPart) -> Result<Value, NoMemory>
-    requires { spec.HasPartSpans part.now }
+fn prometheus_value(alloc: Global, part: &Option<PromPart>) -> Result<Value, NoMemory>
+    requires { IfSome part.now spec.HasPartSpans }
     ensures { IfOk result (λ value. shown.view value ≡ data_of (spec.prometheus_json part.now)) }
+{
+    match part {
+        Some(part) => part_value(alloc, part),
+        None => Ok(Value::Null),
+    }
+}
+
+fn part_value(alloc: Global, part: &PromPart) -> Result<Value, NoMemory>
+    requires { spec.HasPartSpans part.now }
+    ensures { IfOk result (λ value. shown.view value ≡ data_of (spec.part_json part.now)) }
 {
     let global = global_value(alloc, part)?;
     let jobs = jobs_array(alloc, &part.jobs)?;

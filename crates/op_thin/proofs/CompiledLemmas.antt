@@ -10,7 +10,7 @@ use Rattle.std.specs.FinMap.Entries.{by_order}
 use Rattle.op_base.specs.declared.label_names.TheConstants.{NAMESPACE_LABEL}
 use Rattle.op_base.specs.Maps.{Map, values_of, with_entry}
 use Rattle.cfg_types.specs.declared.job.Job.{Job}
-use Rattle.cfg_types.specs.Jobs.{HasJobSpans}
+use Rattle.cfg_types.specs.Jobs.{jobs_of, HasJobSpans}
 use Rattle.cfg_types.specs.Written.{HasSpans, file_text}
 use Rattle.cfg_types.specs.declared.config.RuleFile.{RuleFile}
 use Rattle.op_thin.specs.declared.rule.ThinRule.{ThinRule}
@@ -55,7 +55,7 @@ all_in_order P files all = all_placed P [] files tt all
 
 -- what holds of each thin probe's job holds of the jobs
 pub jobs_have : (P : Job → Type 0) (objects : Present) → ((probe : ThinProbe) → P (job_of probe))
-    → AllByRecursion P (config_of objects).prometheus.jobs
+    → AllByRecursion P (jobs_of (config_of objects))
 jobs_have P objects holds = all_images P job_of (all_of objects.probes) holds
 
 job_spans : (probe : ThinProbe) → HasJobSpans (job_of probe)

@@ -1,6 +1,6 @@
 -- The configuration of the objects present, made from them alone. Until settings are read, every
 -- object is selected and enforced with the label `namespace`.
-use Rattle.std.specs.Prelude.{ℕ, List, [], ◌∷◌, Option, false, codes, map, option_map}
+use Rattle.std.specs.Prelude.{ℕ, List, [], ◌∷◌, Option, Some, None, false, codes, map, option_map}
 use Rattle.std.specs.List.{filter_map}
 use Rattle.op_base.specs.declared.label_names.TheConstants.{NAMESPACE_LABEL}
 use Rattle.op_relabel.specs.declared.step.Step.{Step}
@@ -63,6 +63,7 @@ job_of probe = record {
   metric_relabel_configs = enforced_step probe.namespace ∷ [];
   metrics_path = codes "/probe";
   relabel_configs = probe_steps probe;
+  sample_limit = None;
   scheme = codes "http";
   scrape_interval = INTERVAL;
   scrape_timeout = TIMEOUT;
@@ -96,6 +97,6 @@ recording_of rule = option_map (with_tree rule) (judged_expr rule.judged)
 -- the configuration: the jobs, and the rule files in the order of their texts
 abbrev pub config_of : Present → Config
 config_of objects = record {
-  prometheus = prometheus_of (all_of objects.probes);
+  prometheus = Some (prometheus_of (all_of objects.probes));
   rules = in_order (map file_of (filter_map recording_of (all_of objects.rules)));
 }

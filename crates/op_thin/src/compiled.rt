@@ -35,7 +35,7 @@ pub fn compile(alloc: Global, objects: Objects) -> Result<Config, NoMemory>
     let prometheus = prometheus_of(alloc, probes)?;
     let files = files_by_text(alloc, recordings(alloc, rules)?)?;
     Ok(Config {
-        prometheus,
+        prometheus: Some(prometheus),
         rules: files.into_values(alloc)?,
     })
 }
@@ -77,6 +77,7 @@ fn probe_job(alloc: Global, probe: &ThinProbe) -> Result<Job, NoMemory>
         metric_relabel_configs: sample_steps(alloc, probe)?,
         metrics_path: Text::from_str(alloc, "/probe")?,
         relabel_configs: probe_steps(alloc, probe)?,
+        sample_limit: None,
         scheme: Text::from_str(alloc, "http")?,
         scrape_interval: INTERVAL,
         scrape_timeout: TIMEOUT,

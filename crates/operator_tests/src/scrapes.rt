@@ -44,6 +44,7 @@ fn job(alloc: Global) -> Result<Job, NoMemory> {
         metric_relabel_configs: CheckedSteps::new(alloc),
         metrics_path: text(alloc, "/metrics")?,
         relabel_configs: CheckedSteps::new(alloc),
+        sample_limit: None,
         scheme: text(alloc, "http")?,
         scrape_interval: Span(30_000),
         scrape_timeout: Span(10_000),

@@ -2,6 +2,7 @@
 use Rattle.std.proofs.Common.{◌≡◌, [], ap, sym, subst, ◌∙◌}
 use Rattle.op_base.specs.declared.moment.Moment.{Moment}
 use Rattle.cfg_types.specs.declared.config.Config.{Config}
+use Rattle.cfg_types.specs.Jobs.{jobs_of}
 use Rattle.srv_store.specs.Stores.{Store, Grows, AddsPrefix, with_all}
 use Rattle.srv_store.proofs.GrowthLemmas.{grows-itself, grows-further, grows-with_all}
 use Rattle.srv_scrape.specs.Pages.{Pages}
@@ -13,7 +14,7 @@ use Rattle.srv_run.specs.Ticking.{tick_over}
 
 module _ (config : Config) (pages : Pages) (memory : Memory) (t : Moment) where
   abbrev scraped_store : Store
-  scraped_store = with_all memory.store (tick_entries t memory.scraped (scraped_entries pages t config.prometheus.jobs))
+  scraped_store = with_all memory.store (tick_entries t memory.scraped (scraped_entries pages t (jobs_of config)))
 
   abbrev all_store : Store
   all_store = (tick_over config pages memory t).memory.store

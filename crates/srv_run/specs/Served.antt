@@ -1,12 +1,13 @@
 -- The server: what it keeps, and what each event leaves and says. A tick runs the configuration that
 -- was loaded last, with no ambient labels and nothing forced.
-use Rattle.std.specs.Prelude.{◌≡◌, ℕ, pos, true, List, [], ◌∷◌, Option, Some, None, int_le, if◌then◌else◌}
+use Rattle.std.specs.Prelude.{◌≡◌, ℕ, true, List, [], ◌∷◌, Option, Some, None, int_le, if◌then◌else◌}
 use Rattle.std.specs.List.{AllByRecursion}
 use Rattle.op_base.specs.declared.moment.Moment.{Moment}
 use Rattle.op_base.specs.Maps.{Map, keys_of, with_entry}
 use Rattle.op_base.specs.Names.{is_namespace}
 use Rattle.op_base.specs.Moments.{IsTick}
 use Rattle.cfg_types.specs.declared.config.Config.{Config}
+use Rattle.cfg_types.specs.Jobs.{jobs_of}
 use Rattle.op_report.specs.declared.view.Report.{Report}
 use Rattle.op_report.specs.declared.view.View.TheVariants.{Page as PageView}
 use Rattle.srv_scrape.specs.declared.pages.Sample.{Sample}
@@ -45,7 +46,7 @@ with_page served url samples = record served { pages = with_entry served.pages u
 -- what a tick of a configuration gives
 abbrev pub tick_of : Config → Served → Moment → Ticked
 tick_of config served t =
-    ticked (scraped_entries served.pages t config.prometheus.jobs) config.rules [] [] served.memory t
+    ticked (scraped_entries served.pages t (jobs_of config)) config.rules [] [] served.memory t
 
 -- the server after a tick
 abbrev pub after_tick : Served → Ticked → Moment → Served
@@ -74,16 +75,7 @@ pub record Serving : Type 0 where
 
 -- no jobs and no rules
 abbrev pub no_config : Config
-no_config = record {
-  prometheus = record {
-    evaluation_interval = record { 0 = pos 0 };
-    external_labels = [];
-    scrape_interval = record { 0 = pos 0 };
-    scrape_timeout = record { 0 = pos 0 };
-    jobs = [];
-  };
-  rules = [];
-}
+no_config = record { prometheus = None; rules = [] }
 
 -- a new server
 abbrev pub new_serving : Serving

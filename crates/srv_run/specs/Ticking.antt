@@ -5,6 +5,7 @@ use Rattle.op_base.specs.declared.moment.Moment.{Moment}
 use Rattle.op_base.specs.Labels.{Texts}
 use Rattle.op_base.specs.Maps.{Map, members_at, text_cmp}
 use Rattle.cfg_types.specs.declared.config.Config.{Config}
+use Rattle.cfg_types.specs.Jobs.{jobs_of}
 use Rattle.srv_scrape.specs.Pages.{Pages}
 use Rattle.srv_scrape.specs.Ticks.{scraped_entries}
 use Rattle.srv_store.specs.declared.entry.Entry.{Entry}
@@ -30,7 +31,7 @@ ticked_as before memory failed = record {
 -- a tick of a configuration with no ambient labels and nothing forced
 abbrev pub tick_over : Config → Pages → Memory → Moment → Ticked
 tick_over config pages memory t =
-    ticked (scraped_entries pages t config.prometheus.jobs) config.rules [] [] memory t
+    ticked (scraped_entries pages t (jobs_of config)) config.rules [] [] memory t
 
 -- failed rules and added entries as those of a tick
 abbrev pub told : List FailedRule → List Entry → Ticked

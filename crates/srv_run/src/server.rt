@@ -7,8 +7,8 @@ ghost use Rattle.srv_run.specs.Served as spec;
 use crate::event::{Event, EventFault};
 use crate::reports::tick_reports;
 use crate::tick::run_tick;
-use cfg_types::{Config, PromPart};
-use op_base::{Labels, List, Moment, NoMemory, Span, Table, Tags, Text};
+use cfg_types::Config;
+use op_base::{Labels, List, Moment, NoMemory, Table, Text};
 use op_report::{Report, View};
 use srv_rule::RuleStates;
 use srv_scrape::{Pages, Sample};
@@ -286,13 +286,7 @@ fn no_config(alloc: Global) -> Config
     ensures { result ≡ spec.no_config }
 {
     Config {
-        prometheus: PromPart {
-            evaluation_interval: Span(0),
-            external_labels: Tags::new(alloc),
-            scrape_interval: Span(0),
-            scrape_timeout: Span(0),
-            jobs: List::new(alloc),
-        },
+        prometheus: None,
         rules: List::new(alloc),
     }
 }

@@ -13,7 +13,7 @@ use Rattle.srv_scrape.specs.Targets.{job_targets}
 
 -- a job's own manner: nothing is forced beside its steps
 abbrev pub manner_of : Job → Manner
-manner_of job = record { honor = job.honor_labels; steps = job.metric_relabel_configs; force = [] }
+manner_of job = record { honor = job.honor_labels; steps = job.metric_relabel_configs; limit = job.sample_limit; force = [] }
 
 -- the entries of the scrapes of these targets in one manner
 abbrev pub target_entries : Pages → Moment → Manner → List Target → List Entry

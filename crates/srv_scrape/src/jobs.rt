@@ -15,14 +15,14 @@ use std::alloc::Global;
 /// The entries of all scrapes of a tick, job after job, and of each job target after target.
 pub fn scrape_all(
     alloc: Global,
-    jobs: &List<Job>,
+    jobs: &[Job],
     pages: &Pages,
     t: Moment,
 ) -> Result<List<Entry>, NoMemory>
     ensures { IfOk result (λ entries. entries ≡ spec.scraped_entries pages.now t jobs.now) }
 {
     let mut entries = List::new(alloc);
-    push_jobs(alloc, &mut entries, jobs.as_slice(), pages, t)?;
+    push_jobs(alloc, &mut entries, jobs, pages, t)?;
     Ok(entries)
 }
 

@@ -37,6 +37,7 @@ pub fn scrape(
 pub(crate) struct Manner<'a> {
     honor_labels: bool,
     steps: List<PreparedStep<'a>>,
+    limit: Option<u64>,
 }
 
 impl<'a> Model for Manner<'a> {
@@ -45,7 +46,12 @@ impl<'a> Model for Manner<'a> {
 
     ghost Value = { Seen };
 
-    ghost view = { λ manner. record { honor = manner.honor_labels; steps = manner.steps; force = [] } };
+    ghost view = { λ manner. record {
+      honor = manner.honor_labels;
+      steps = manner.steps;
+      limit = manner.limit;
+      force = [];
+    } };
 }
 
 pub(crate) fn manner_of<'a>(alloc: Global, job: &'a Job) -> Result<Manner<'a>, NoMemory>
@@ -54,6 +60,7 @@ pub(crate) fn manner_of<'a>(alloc: Global, job: &'a Job) -> Result<Manner<'a>, N
     Ok(Manner {
         honor_labels: job.honor_labels,
         steps: prepare(alloc, &job.metric_relabel_configs)?,
+        limit: job.sample_limit,
     })
 }
 
@@ -71,7 +78,7 @@ pub(crate) fn scrape_by(
     match pages.get(target.url.as_str()) {
         Some(samples) => {
             let left = all_left(alloc, manner, target, samples.as_slice())?;
-            entries_of(alloc, target, t, left)
+            entries_of(alloc, manner.limit, target, t, left)
         }
         None => failed_scrape(alloc, target, t),
     }
@@ -135,16 +142,18 @@ fn left_with(labels: Labels, value: i64) -> Option<Sample>
     }
 }
 
-// The entries of the samples, and then `up`. Where a sample has no name, the scrape fails.
+// The entries of the samples, and then `up`. Where a sample has no name or there are more than the limit,
+// the scrape fails.
 fn entries_of(
     alloc: Global,
+    limit: Option<u64>,
     target: &Target,
     t: Moment,
     samples: List<Sample>,
 ) -> Result<List<Entry>, NoMemory>
-    ensures { IfOk result (λ entries. entries ≡ spec.entries_of target.now t samples) }
+    ensures { IfOk result (λ entries. entries ≡ spec.entries_of limit target.now t samples) }
 {
-    if !all_named(samples.as_slice()) {
+    if !(all_named(samples.as_slice()) && is_within(limit, samples.as_slice())) {
         return failed_scrape(alloc, target, t);
     }
     let mut entries = List::new(alloc);
@@ -159,6 +168,16 @@ fn all_named(samples: &[Sample]) -> bool
     samples
         .iter()
         .all(|sample| has_name(&sample.labels, METRIC_NAME))
+}
+
+// There are no more than a limit above 0.
+fn is_within(limit: Option<u64>, samples: &[Sample]) -> bool
+    ensures { result ≡ spec.is_within limit samples.now }
+{
+    match limit {
+        Some(limit) => limit == 0 || samples.len() as u64 <= limit,
+        None => true,
+    }
 }
 
 fn push_entries(entries: &mut List<Entry>, t: Moment, samples: List<Sample>) -> Result<(), NoMemory>

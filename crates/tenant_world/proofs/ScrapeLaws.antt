@@ -1,5 +1,5 @@
 -- The scrapes of one namespace's probes among all, and the target of a probe said directly.
-use Rattle.std.proofs.Common.{◌≡◌, ℕ, ℤ, pos, ◌<◌, true, false, cond, List, [], ◌∷◌, ◌++◌, map, filter, length, codes, option_and_then, Option, None, Some, IfSome, nat_eq, refl, sym, ap, ◌∙◌, append-nil, append_assoc, arith}
+use Rattle.std.proofs.Common.{◌≡◌, ℕ, ℤ, pos, ◌<◌, true, false, ◌&&◌, cond, List, [], ◌∷◌, ◌++◌, map, filter, length, codes, option_and_then, Option, None, Some, IfSome, nat_eq, refl, sym, ap, ◌∙◌, append-nil, append_assoc, arith}
 use Rattle.std.specs.List.{AllByRecursion, flat_map, filter_map, cons_option, list_all}
 use Rattle.std.specs.Cmp.Lexicographic.{pointwise, bytes_decides}
 use Rattle.op_base.specs.declared.moment.Moment.{Moment}
@@ -17,7 +17,7 @@ use Rattle.srv_scrape.specs.declared.pages.Sample.{Sample}
 use Rattle.srv_scrape.specs.declared.target.Target.{Target}
 use Rattle.srv_scrape.specs.Joined.{joined}
 use Rattle.srv_scrape.specs.Pages.{Pages, page_at}
-use Rattle.srv_scrape.specs.Scraped.{Left, left_with, left_after, left_of, all_left, all_named, up_entry, failed_scrape, entry_of, entries_of, scraped}
+use Rattle.srv_scrape.specs.Scraped.{Left, left_with, left_after, left_of, all_left, all_named, is_within, up_entry, failed_scrape, entry_of, entries_of, scraped}
 use Rattle.srv_scrape.specs.Targets.{url_of, target_labels, query_of, parameters_of, as_labels, with_address, with_job, discovered, target_from, target_at}
 use Rattle.srv_scrape.specs.Ticks.{manner_of, job_entries, scraped_entries}
 use Rattle.op_thin.specs.declared.probe.ThinProbe.{ThinProbe}
@@ -130,7 +130,7 @@ scraped-of : (p : ThinProbe) (target : Target) (page : Option (List Sample)) (t 
     → scraped (manner_of (job_of p)) target page t ≡ scraped (direct_manner p.namespace) target page t
 scraped-of p target None t plain = refl
 scraped-of p target (Some samples) t plain =
-    ap (entries_of target t)
+    ap (entries_of None target t)
     (filter_map-same (left_of (manner_of (job_of p)) target) (left_of (direct_manner p.namespace) target) (λ s. left-of p target s plain) samples)
 
 -- the texts of a probe as they have to be
@@ -185,7 +185,7 @@ own-page : (p : ThinProbe) (t : Moment) (page : Option (List Sample)) → 0 < le
 own-page p t None some = own-up p t (pos 0)
 own-page p t (Some samples) some =
     let left = all_left (direct_manner p.namespace) (probe_target p) samples in
-    elim (all_named left) as (λ b. OwnEntries p.namespace (cond b (map (entry_of t) left ++ up_entry (probe_target p) t (pos 1) ∷ []) (failed_scrape (probe_target p) t))) [
+    elim (all_named left && is_within None left) as (λ b. OwnEntries p.namespace (cond b (map (entry_of t) left ++ up_entry (probe_target p) t (pos 1) ∷ []) (failed_scrape (probe_target p) t))) [
       | true ↦ own-append p.namespace (map (entry_of t) left) (up_entry (probe_target p) t (pos 1) ∷ []) (own-samples p t samples some) (own-up p t (pos 1))
       | false ↦ own-up p t (pos 0)
     ]

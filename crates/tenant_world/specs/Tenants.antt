@@ -60,9 +60,9 @@ written_file r = record {
 abbrev pub written_files : Map ThinRule → List RuleFile
 written_files rules = in_order (map written_file (filter_map recording_of (values_of rules)))
 
--- samples are renamed where they clash, no step is run, and the own label is put over all
+-- samples are renamed where they clash, no step is run, there is no limit, and the own label is put over all
 abbrev pub direct_manner : List ℕ → Manner
-direct_manner n = record { honor = false; steps = []; force = home_label n }
+direct_manner n = record { honor = false; steps = []; limit = None; force = home_label n }
 
 -- the entries of a probe's scrape
 abbrev pub probe_entries : List ℕ → Pages → Moment → ThinProbe → List Entry
