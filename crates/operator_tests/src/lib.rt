@@ -11,6 +11,12 @@ mod base;
 #[cfg(test)]
 mod lines;
 #[cfg(test)]
+mod manifests;
+#[cfg(test)]
+mod objects;
+#[cfg(test)]
+mod relabelling;
+#[cfg(test)]
 mod reports;
 #[cfg(test)]
 mod rules;
