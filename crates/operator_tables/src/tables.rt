@@ -4,6 +4,7 @@ mod enforced;
 mod evaluated;
 mod expanded;
 mod label_cells;
+mod manifests;
 mod matchers;
 mod names;
 mod patterns;
@@ -11,6 +12,7 @@ mod printed;
 mod spans;
 mod tokens;
 mod types;
+mod words;
 
 use crate::cells::{cells_of, is_row};
 use crate::compare::Tally;
@@ -26,6 +28,7 @@ pub enum Call {
     Enforced,
     Evaluated,
     Expanded,
+    Manifests,
     Matchers,
     Names,
     Patterns,
@@ -33,6 +36,7 @@ pub enum Call {
     Spans,
     Tokens,
     Types,
+    Words,
 }
 
 impl Call {
@@ -42,6 +46,7 @@ impl Call {
             "enforced" => Some(Call::Enforced),
             "evaluated" => Some(Call::Evaluated),
             "expanded" => Some(Call::Expanded),
+            "manifests" => Some(Call::Manifests),
             "matchers" => Some(Call::Matchers),
             "names" => Some(Call::Names),
             "patterns" => Some(Call::Patterns),
@@ -49,6 +54,7 @@ impl Call {
             "spans" => Some(Call::Spans),
             "tokens" => Some(Call::Tokens),
             "types" => Some(Call::Types),
+            "words" => Some(Call::Words),
             _ => None,
         }
     }
@@ -144,6 +150,7 @@ fn found(alloc: Global, call: Call, store: &Store, given: &[Text]) -> Result<Tex
         Call::Enforced => enforced::found(alloc, given),
         Call::Evaluated => evaluated::found(alloc, store, given),
         Call::Expanded => expanded::found(alloc, given),
+        Call::Manifests => manifests::found(alloc, given),
         Call::Matchers => matchers::found(alloc, given),
         Call::Names => names::found(alloc, given),
         Call::Patterns => patterns::found(alloc, given),
@@ -151,5 +158,6 @@ fn found(alloc: Global, call: Call, store: &Store, given: &[Text]) -> Result<Tex
         Call::Spans => spans::found(alloc, given),
         Call::Tokens => tokens::found(alloc, given),
         Call::Types => types::found(alloc, given),
+        Call::Words => words::found(alloc, given),
     }
 }

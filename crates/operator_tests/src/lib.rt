@@ -13,8 +13,6 @@ mod lines;
 #[cfg(test)]
 mod manifests;
 #[cfg(test)]
-mod objects;
-#[cfg(test)]
 mod relabelling;
 #[cfg(test)]
 mod reports;

@@ -1,0 +1,4 @@
+pub mod LabelLemmas
+pub mod ParamLemmas
+pub mod PartLemmas
+pub mod EndpointLemmas

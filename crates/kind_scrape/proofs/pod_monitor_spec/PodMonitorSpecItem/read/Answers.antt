@@ -1,0 +1,27 @@
+-- The table, row by row.
+use Rattle.std.proofs.Common.{[], ◌∙◌, ap, unwrap_or}
+use Rattle.op_manifest.specs.Trees.{data_of}
+use Rattle.op_manifest.proofs.RowLemmas.{read_table, row, end}
+use Rattle.kind_scrape.specs.MonitorTables.{pod_monitor_rows, pod_monitor_spec_of}
+use Rattle.kind_scrape.proofs.pod_monitor_spec.PodMonitorSpecItem.read.Goals as goal
+
+pub returns : goal.returns
+unfolding pod_monitor_spec_of
+returns c = (
+  read_table pod_monitor_rows c.args.path.now (data_of c.args.tree.now) _ _ _ c.in_ok-noted_known.ensures
+      (row c.in_ok-job_label.ensures.0
+      (row c.in_ok-labels.ensures.0
+      (row c.in_ok-endpoints.ensures.0
+      (row c.in_ok-selector.ensures.0
+      (row c.in_ok-namespace_selector.ensures.0
+      (row c.in_ok-sample_limit.ensures.0
+      end)))))),
+  λ i. record {
+    job_label = c.in_ok-job_label.ensures.1 i;
+    pod_target_labels = (c.or_none.ensures ∙ ap (λ labels. unwrap_or labels []) c.in_ok-labels.ensures.1) i;
+    pod_metrics_endpoints = c.in_ok-endpoints.ensures.1 i;
+    selector = c.in_ok-selector.ensures.1 i;
+    namespace_selector = c.in_ok-namespace_selector.ensures.1 i;
+    sample_limit = c.in_ok-sample_limit.ensures.1 i;
+  },
+)

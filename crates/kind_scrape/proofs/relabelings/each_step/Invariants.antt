@@ -1,0 +1,15 @@
+use Rattle.std.proofs.Common.{◌≡◌, ◌++◌, drop}
+use Rattle.op_manifest.specs.Trees.{items_in}
+use Rattle.op_manifest.specs.Shapes.{later}
+use Rattle.op_manifest.specs.Checks.{items_from}
+use Rattle.op_manifest.specs.Values.{each_of}
+use Rattle.kind_scrape.specs.Relabelings.{step, step_of}
+use Rattle.kind_scrape.proofs.relabelings.each_step.Given as goal
+
+-- what is left gives the rest of the breaches and of the steps
+abbrev pub invariant-loop-index : goal.invariant-loop-index
+invariant-loop-index l = record {
+  wrongs : later l.initial.found (items_from step l.path 0 (items_in l.items))
+      ≡ later l.found (items_from step l.path l.index (items_in (drop l.index l.items)));
+  items : each_of step_of (items_in l.items) ≡ l.all ++ each_of step_of (items_in (drop l.index l.items));
+}

@@ -1,0 +1,10 @@
+pub mod Needed
+pub mod Credentials
+pub mod Tls
+pub mod Relabelings
+pub mod TargetLabels
+pub mod Params
+pub mod EndpointTables
+pub mod MonitorTables
+pub mod ProbeTables
+pub mod ScrapeObjects
