@@ -5,6 +5,8 @@ use Rattle.op_base.specs.declared.matcher.MatchOp.TheVariants.{Eq, Ne, Re, Nr}
 use Rattle.op_base.specs.declared.matcher.Matcher.{Matcher}
 use Rattle.op_base.specs.declared.matcher.MatchFault as declared
 use Rattle.op_base.specs.declared.matcher.MatchFault.TheVariants as fault
+use Rattle.op_base.specs.declared.prepared.HeldPattern.{HeldPattern}
+use Rattle.op_base.specs.declared.prepared.HeldPattern.TheVariants.{Nowhere, Here, Lent}
 use Rattle.op_base.specs.declared.pattern.PatternFault.{PatternFault}
 use Rattle.op_base.specs.declared.pattern.PatternFault.TheVariants.{BadPattern, NoMemory}
 use Rattle.op_base.specs.Maps.{value_at}
@@ -38,19 +40,25 @@ abbrev pub fault_of : PatternFault → declared.MatchFault
 fault_of BadPattern = fault.BadPattern
 fault_of NoMemory = fault.NoMemory
 
--- the matcher asks for no pattern, or its value is none
-abbrev pub AsksNone : MatchOp → List ℕ → Type 0
-AsksNone Eq text = Unit {0}
-AsksNone Ne text = Unit {0}
-AsksNone Re text = meaning_of text ≡ None
-AsksNone Nr text = meaning_of text ≡ None
+-- what is held is the pattern that the text is; nothing is held of a text that is none
+abbrev pub IsHeld : List ℕ → HeldPattern → Type 0
+IsHeld text Nowhere = meaning_of text ≡ None
+IsHeld text (Here pattern) = pattern ≡ text
+IsHeld text (Lent pattern) = pattern.now ≡ text
 
--- what was read of a matcher is the pattern of its value, where it asks for one
-abbrev pub IsPrepared : Matcher → Option (List ℕ) → Type 0
-IsPrepared matcher (Some pattern) = pattern ≡ matcher.value
-IsPrepared matcher None = AsksNone matcher.op matcher.value
+-- what is held of a matcher is the pattern of its value, where it asks for one
+abbrev pub HoldsPattern : MatchOp → List ℕ → HeldPattern → Type 0
+HoldsPattern Eq text held = Unit {0}
+HoldsPattern Ne text held = Unit {0}
+HoldsPattern Re text held = IsHeld text held
+HoldsPattern Nr text held = IsHeld text held
 
--- whether a value matches the pattern that was read, if any
-abbrev pub found_in : Option (List ℕ) → List ℕ → Bool
-found_in (Some pattern) value = pattern_matches pattern value
-found_in None value = false
+-- the same of the matcher
+abbrev pub IsPrepared : Matcher → HeldPattern → Type 0
+IsPrepared matcher held = HoldsPattern matcher.op matcher.value held
+
+-- whether a value matches the pattern that is held, if any
+abbrev pub found_in : HeldPattern → List ℕ → Bool
+found_in Nowhere value = false
+found_in (Here pattern) value = pattern_matches pattern value
+found_in (Lent pattern) value = pattern_matches pattern.now value

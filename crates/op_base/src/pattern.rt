@@ -75,6 +75,13 @@ impl Pattern {
         Ok(Pattern { alloc, text, form })
     }
 
+    /// The text that was read.
+    pub fn text(&self) -> &str
+        ensures { result.now ≡ self.now }
+    {
+        self.text.as_str()
+    }
+
     /// Whether the whole value matches.
     pub fn matches(&self, value: &str) -> Result<bool, NoMemory>
         ensures { IfOk result (λ found. found ≡ spec.pattern_matches self.now value.now) }

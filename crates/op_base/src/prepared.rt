@@ -1,6 +1,5 @@
-ghost use Rattle.std.specs.Prelude.{◌≡◌, None, IfOk, MatchOption};
-ghost use Rattle.op_base.specs.Matchers.{IsPrepared, found_in, holds_on};
-ghost use Rattle.op_base.specs.Patterns.{meaning_of};
+ghost use Rattle.std.specs.Prelude.{◌≡◌, IfOk};
+ghost use Rattle.op_base.specs.Matchers.{IsHeld, IsPrepared, found_in, holds_on};
 
 use crate::labels::Labels;
 use crate::matcher::{MatchOp, Matcher};
@@ -14,7 +13,15 @@ use std::marker::Model;
 #[derive(Drop)]
 pub struct PreparedMatcher<'a> {
     matcher: &'a Matcher,
-    pattern: Option<Pattern>,
+    pattern: HeldPattern<'a>,
+}
+
+// Where the pattern of a matcher is, if it has one: here, or with who read it before.
+#[derive(Drop)]
+enum HeldPattern<'a> {
+    Nowhere,
+    Here(Pattern),
+    Lent(&'a Pattern),
 }
 
 impl<'a> Model for PreparedMatcher<'a> {
@@ -29,11 +36,16 @@ impl<'a> Model for PreparedMatcher<'a> {
 }
 
 impl<'a> PreparedMatcher<'a> {
-    /// Reads the pattern of a matcher with `=~` or `!~`.
-    pub fn new(alloc: Global, matcher: &'a Matcher) -> Result<PreparedMatcher<'a>, NoMemory>
+    /// The matcher with the pattern that is known, where that is the one of its value. Otherwise the
+    /// pattern of a matcher with `=~` or `!~` is read.
+    pub fn new(
+        alloc: Global,
+        matcher: &'a Matcher,
+        known: Option<&'a Pattern>,
+    ) -> Result<PreparedMatcher<'a>, NoMemory>
         ensures { IfOk result (λ prepared. prepared ≡ matcher.now) }
     {
-        let pattern = pattern_of(alloc, matcher)?;
+        let pattern = pattern_of(alloc, matcher, known)?;
         Ok(PreparedMatcher { matcher, pattern })
     }
 
@@ -51,33 +63,64 @@ impl<'a> PreparedMatcher<'a> {
     }
 }
 
-fn pattern_of(alloc: Global, matcher: &Matcher) -> Result<Option<Pattern>, NoMemory>
-    ensures { IfOk result (λ pattern. IsPrepared matcher.now pattern) }
+fn pattern_of<'a>(
+    alloc: Global,
+    matcher: &Matcher,
+    known: Option<&'a Pattern>,
+) -> Result<HeldPattern<'a>, NoMemory>
+    ensures { IfOk result (IsPrepared matcher.now) }
 {
     match matcher.op {
-        MatchOp::Eq => Ok(None),
-        MatchOp::Ne => Ok(None),
-        MatchOp::Re => pattern_in(alloc, matcher.value.as_str()),
-        MatchOp::Nr => pattern_in(alloc, matcher.value.as_str()),
+        MatchOp::Eq => Ok(HeldPattern::Nowhere),
+        MatchOp::Ne => Ok(HeldPattern::Nowhere),
+        MatchOp::Re => pattern_in(alloc, matcher.value.as_str(), known),
+        MatchOp::Nr => pattern_in(alloc, matcher.value.as_str(), known),
     }
 }
 
-// The pattern that the text is, or none.
-fn pattern_in(alloc: Global, text: &str) -> Result<Option<Pattern>, NoMemory>
-    ensures { IfOk result (λ pattern. MatchOption pattern (meaning_of text.now ≡ None) (λ read. read ≡ text.now)) }
+// The pattern that the text is, if it is one.
+fn pattern_in<'a>(
+    alloc: Global,
+    text: &str,
+    known: Option<&'a Pattern>,
+) -> Result<HeldPattern<'a>, NoMemory>
+    ensures { IfOk result (IsHeld text.now) }
+{
+    match known {
+        Some(pattern) => lent_or_read(alloc, text, pattern),
+        None => read_pattern(alloc, text),
+    }
+}
+
+fn lent_or_read<'a>(
+    alloc: Global,
+    text: &str,
+    known: &'a Pattern,
+) -> Result<HeldPattern<'a>, NoMemory>
+    ensures { IfOk result (IsHeld text.now) }
+{
+    if known.text() == text {
+        return Ok(HeldPattern::Lent(known));
+    }
+    read_pattern(alloc, text)
+}
+
+fn read_pattern<'a>(alloc: Global, text: &str) -> Result<HeldPattern<'a>, NoMemory>
+    ensures { IfOk result (IsHeld text.now) }
 {
     match Pattern::read(alloc, text) {
-        Ok(pattern) => Ok(Some(pattern)),
-        Err(PatternFault::BadPattern) => Ok(None),
+        Ok(pattern) => Ok(HeldPattern::Here(pattern)),
+        Err(PatternFault::BadPattern) => Ok(HeldPattern::Nowhere),
         Err(PatternFault::NoMemory) => Err(NoMemory),
     }
 }
 
-fn finds(pattern: &Option<Pattern>, value: &str) -> Result<bool, NoMemory>
+fn finds(pattern: &HeldPattern, value: &str) -> Result<bool, NoMemory>
     ensures { IfOk result (λ found. found ≡ found_in pattern.now value.now) }
 {
     match pattern {
-        Some(pattern) => pattern.matches(value),
-        None => Ok(false),
+        HeldPattern::Nowhere => Ok(false),
+        HeldPattern::Here(pattern) => pattern.matches(value),
+        HeldPattern::Lent(pattern) => pattern.matches(value),
     }
 }

@@ -10,9 +10,11 @@ ghost use Rattle.ql_eval.specs.Enforcement.{IsEnforcedAlike};
 
 mod absent;
 mod evaluation;
+mod patterns;
 mod selector;
 
 pub use evaluation::eval;
+pub use patterns::read_patterns;
 
 /// The value of an enforced expression is the value of the expression as it is written, over the
 /// entries of the one namespace.

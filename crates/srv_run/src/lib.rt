@@ -6,6 +6,7 @@
 #![tactic(auto)]
 
 mod event;
+mod loading;
 mod reports;
 mod server;
 mod shares;

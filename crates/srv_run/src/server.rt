@@ -5,6 +5,7 @@ ghost use Rattle.op_base.specs.Moments.{IsTick};
 ghost use Rattle.srv_run.specs.Served as spec;
 
 use crate::event::{Event, EventFault};
+use crate::loading::read_patterns;
 use crate::reports::tick_reports;
 use crate::tick::run_tick;
 use cfg_types::Config;
@@ -19,7 +20,7 @@ use std::marker::Model;
 /// A server: the configuration that was loaded last, and what it keeps of the events before.
 /// Contracts see both. Each namespace that it knows is well formed, and its last tick is from 0 to
 /// 2^53. It keeps its allocator.
-#[derive(Debug, Drop)]
+#[derive(Drop)]
 pub struct Server {
     alloc: Global,
     config: Config,
@@ -72,11 +73,13 @@ impl Server {
         })
     }
 
-    /// Loads the configuration in place of the one before; all else stays.
+    /// Loads the configuration in place of the one before; all else stays. The patterns of its rules are
+    /// read here, and not at each tick.
     pub fn load(&mut self, config: Config) -> Result<(), NoMemory>
         ensures ok { OnOk result (self.new ≡ record self.old { config = config }) }
         ensures err { OnErr result (self.new ≡ self.old) }
     {
+        read_patterns(config.rules.as_slice(), &mut self.store)?;
         self.config = config;
         Ok(())
     }

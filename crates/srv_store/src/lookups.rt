@@ -11,7 +11,7 @@ use crate::entry::Entry;
 use crate::map::LabelMap;
 use crate::run::Run;
 use indexmap::IndexSet;
-use op_base::{Labels, List, Matcher, Moment, NoMemory, PreparedMatcher};
+use op_base::{Labels, List, Matcher, Moment, NoMemory, Pattern, PreparedMatcher, Table};
 use std::alloc::Global;
 
 /// The numbers of the label sets on which all matchers hold, by the label sets. Only those are looked at
@@ -20,12 +20,13 @@ pub(crate) fn found_runs(
     alloc: Global,
     keys: &IndexSet<Labels>,
     index: &LabelMap<List<usize>>,
+    patterns: &Table<Pattern>,
     matchers: &List<Matcher>,
 ) -> Result<LabelMap<usize>, NoMemory>
     requires { IsIndex keys.now.keys index.now }
     ensures { IfOk result (runs_spec.AreFound keys.now.keys matchers.now) }
 {
-    let prepared = prepared(alloc, matchers.as_slice())?;
+    let prepared = prepared(alloc, patterns, matchers.as_slice())?;
     let numbers = candidates(alloc, keys, index, matchers.as_slice())?;
     found_among(alloc, keys, &prepared, numbers.as_slice())
 }
@@ -101,16 +102,18 @@ fn all_hold(matchers: &[PreparedMatcher], labels: &Labels) -> Result<bool, NoMem
     Ok(true)
 }
 
-// The matchers, each with its pattern.
+// The matchers, each with its pattern, which is read where it isn't among those that are known.
 fn prepared<'a>(
     alloc: Global,
+    patterns: &'a Table<Pattern>,
     matchers: &'a [Matcher],
 ) -> Result<List<PreparedMatcher<'a>>, NoMemory>
     ensures { IfOk result (λ prepared. prepared ≡ matchers.now) }
 {
     let mut all = List::new(alloc);
     for matcher in matchers {
-        all.push(PreparedMatcher::new(alloc, matcher)?)?;
+        let known = patterns.get(matcher.value.as_str());
+        all.push(PreparedMatcher::new(alloc, matcher, known)?)?;
     }
     Ok(all)
 }

@@ -8,20 +8,21 @@ use crate::lookups::{found_runs, newest_entries, ranged_series, selected_entries
 use crate::map::LabelMap;
 use crate::run::Run;
 use indexmap::IndexSet;
-use op_base::{Labels, List, Matcher, Moment, NoMemory};
+use op_base::{Labels, List, Matcher, Moment, NoMemory, Pattern, PatternFault, Table, Text};
 use std::alloc::Global;
 use std::marker::Model;
 
 /// The samples that were stored. Contracts see the list of their entries in the order in which they
 /// came. It keeps a run of readings for each label set, for each label the numbers of
-/// the runs that have it, and its allocator.
-#[derive(Debug, Drop)]
+/// the runs that have it, the patterns that were read for matchers, and its allocator.
+#[derive(Drop)]
 pub struct Store {
     alloc: Global,
     keys: IndexSet<Labels>,
     runs: Vec<Run>,
     index: LabelMap<List<usize>>,
     log: Vec<Addition>,
+    patterns: Table<Pattern>,
 }
 
 impl Model for Store {
@@ -50,6 +51,7 @@ impl Store {
             runs: Vec::new(alloc),
             index: LabelMap::new(alloc),
             log: Vec::new(alloc),
+            patterns: Table::new(alloc),
         }
     }
 
@@ -120,6 +122,22 @@ impl Store {
         Ok(())
     }
 
+    /// Reads the pattern, if the text is one, so that no look-up with it reads it anew.
+    pub fn read_pattern(&mut self, text: &str) -> Result<(), NoMemory>
+        ensures { self.new ≡ self.old }
+    {
+        if self.patterns.get(text).is_some() {
+            return Ok(());
+        }
+        match Pattern::read(self.alloc, text) {
+            Ok(pattern) => self
+                .patterns
+                .insert(Text::from_str(self.alloc, text)?, pattern),
+            Err(PatternFault::BadPattern) => Ok(()),
+            Err(PatternFault::NoMemory) => Err(NoMemory),
+        }
+    }
+
     /// The entries on whose labels all matchers hold, with moments from one to another, both included,
     /// by labels and then by moments.
     pub fn select(
@@ -141,7 +159,13 @@ impl Store {
     ) -> Result<List<Entry>, NoMemory>
         ensures { IfOk result (λ entries. entries ≡ spec.selected self.now matchers.now from.now to.now) }
     {
-        let found = found_runs(self.alloc, &self.keys, &self.index, matchers)?;
+        let found = found_runs(
+            self.alloc,
+            &self.keys,
+            &self.index,
+            &self.patterns,
+            matchers,
+        )?;
         selected_entries(self.alloc, self.runs.as_slice(), found, from, to)
     }
 
@@ -155,7 +179,13 @@ impl Store {
     ) -> Result<List<Entry>, NoMemory>
         ensures { IfOk result (λ entries. entries ≡ spec.newest self.now matchers.now from.now to.now) }
     {
-        let found = found_runs(self.alloc, &self.keys, &self.index, matchers)?;
+        let found = found_runs(
+            self.alloc,
+            &self.keys,
+            &self.index,
+            &self.patterns,
+            matchers,
+        )?;
         newest_entries(self.alloc, self.runs.as_slice(), found, from, to)
     }
 
@@ -170,7 +200,13 @@ impl Store {
     ) -> Result<List<(Labels, List<(Moment, i64)>)>, NoMemory>
         ensures { IfOk result (λ series. series ≡ spec.ranged self.now matchers.now from.now to.now) }
     {
-        let found = found_runs(self.alloc, &self.keys, &self.index, matchers)?;
+        let found = found_runs(
+            self.alloc,
+            &self.keys,
+            &self.index,
+            &self.patterns,
+            matchers,
+        )?;
         ranged_series(self.alloc, self.runs.as_slice(), found, from, to)
     }
 }
