@@ -1,6 +1,5 @@
-pub mod Fields
-pub mod Lines
-pub mod Numbers
-pub mod Pages
+pub mod Keys
+pub mod Ticks
 pub mod Samples
-pub mod Shapes
+pub mod Pages
+pub mod Lines

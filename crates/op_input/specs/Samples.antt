@@ -1,86 +1,84 @@
--- A sample of a page, after the Prometheus data model: a list of its labels, the metric's name among
--- them, and its value, which is a whole number of 64 bits.
-use Rattle.std.specs.Prelude.{ℕ, ℤ, List, [], ◌∷◌, Bool, Ok, ◌==◌, ◌||◌, ◌&&◌, not, codes, if◌then◌else◌}
+-- A sample of a page, after the Prometheus data model: a list of its labels, the metric's name among them, and its
+-- value, which is a whole number of 64 bits.
+use Rattle.std.specs.Prelude.{ℕ, ℤ, pos, List, [], ◌++◌, Bool, Option, Some, None, length, option_and_then, unwrap_or, is_some, ◌==◌, ◌||◌, ◌&&◌, not, codes, if◌then◌else◌}
 use Rattle.std.specs.List.{starts_with}
-use Rattle.serde_json.specs.Data.{Data, Members, no_members, member}
-use Rattle.serde_json.specs.Find.{as_str, as_number, as_i64, as_object}
+use Rattle.std.specs.Option.{option_map_or}
+use Rattle.serde_json.specs.Data.{Data, Items, no_items, item}
+use Rattle.serde_json.specs.Find.{as_str, as_number, as_i64, as_array}
 use Rattle.op_base.specs.declared.label_names.TheConstants.{METRIC_NAME}
-use Rattle.op_base.specs.Labels.{Texts, labels_with}
+use Rattle.op_base.specs.Labels.{Texts, labels_with_all}
 use Rattle.op_base.specs.Names.{is_metric_name, is_label_name}
+use Rattle.op_json.specs.Reading.{is_text}
+use Rattle.op_manifest.specs.declared.shape.Shape.{Shape}
+use Rattle.op_manifest.specs.declared.shape.TheConstants.ShapeRule.{WRONG_TYPE, MISSING, BAD_NUMBER, BAD_LABEL}
+use Rattle.op_manifest.specs.Checks.{Check, required}
+use Rattle.op_manifest.specs.Heads.{object}
+use Rattle.op_manifest.specs.Maps.{is_any, texts_by, texts_of}
+use Rattle.op_manifest.specs.Shapes.{path_at, wrong, unless}
 use Rattle.srv_scrape.specs.declared.pages.Sample.{Sample}
-use Rattle.op_input.specs.declared.shape.TheConstants.ShapeRule.{WRONG_TYPE, MISSING, BAD_NUMBER, BAD_LABEL}
-use Rattle.op_json.specs.Reading.{is_text, is_null}
-use Rattle.op_input.specs.Fields.{field, pair}
-use Rattle.op_input.specs.Shapes.{Reading, breach, and_then, required, sample_path, labels_path, label_path, value_path}
-
--- the text of the metric's name: an empty one is missing
-abbrev pub metric_text : ℕ → List ℕ → Reading (List ℕ)
-metric_text index [] = breach MISSING (label_path index METRIC_NAME.now)
-metric_text index (b ∷ name) = if is_metric_name (b ∷ name) then Ok (b ∷ name) else breach BAD_LABEL (label_path index METRIC_NAME.now)
-
--- the metric's name: a field that has to stand, a text
-abbrev pub metric_of : ℕ → Data → Reading (List ℕ)
-metric_of index labels =
-    and_then (required MISSING (label_path index METRIC_NAME.now) (field METRIC_NAME.now labels)) (λ value.
-    and_then (required WRONG_TYPE (label_path index METRIC_NAME.now) (as_str value))
-    (metric_text index))
 
 -- a label's name, which doesn't begin with `__`
 abbrev pub is_plain_label : List ℕ → Bool
 is_plain_label name = is_label_name name && not (starts_with ◌==◌ name (codes "__"))
 
--- the labels with one more, whose value has to be a text; an empty one is an absent label
-abbrev pub with_text : ℕ → Texts → List ℕ → Data → Reading Texts
-with_text index labels name value =
-    and_then (required WRONG_TYPE (label_path index name) (as_str value)) (λ text.
-    Ok (labels_with labels name text))
+-- the name of a label of a sample: the metric's, or such a one
+abbrev pub is_sample_label : List ℕ → Bool
+is_sample_label name = is_text name METRIC_NAME.now || is_plain_label name
 
--- the name is looked at before the value
-abbrev pub with_label : ℕ → Texts → List ℕ → Data → Reading Texts
-with_label index labels name value =
-    if is_plain_label name then with_text index labels name value else breach BAD_LABEL (label_path index name)
+-- what is wrong with the text of the metric's name: an empty one is missing
+abbrev pub name_wrongs : List ℕ → List ℕ → List Shape
+name_wrongs path name = if length name == 0 then wrong MISSING path else unless (is_metric_name name) BAD_LABEL path
 
--- a member that is null, and the metric's name, which was read before, are passed over
-abbrev pub is_passed : List ℕ → Data → Bool
-is_passed name value = is_null value || is_text name METRIC_NAME.now
+-- the metric's name
+unfoldable pub metric : Check
+metric path d = option_map_or (name_wrongs path) (as_str d) (wrong WRONG_TYPE path)
 
--- the labels with a member of an object
-abbrev pub with_member : ℕ → Texts → List ℕ → Data → Reading Texts
-with_member index labels name value = if is_passed name value then Ok labels else with_label index labels name value
+-- the labels: an object of texts. The metric's name has to stand, and comes before the others.
+abbrev pub labels : Check
+labels path d =
+    object path d
+    ++ required metric METRIC_NAME.now path d
+    ++ texts_by is_sample_label BAD_LABEL is_any BAD_LABEL path d
 
--- the labels with the members of an object, in the order of their names
-abbrev pub with_members : ℕ → Texts → Members → Reading Texts
-with_members index labels no_members = Ok labels
-with_members index labels (member name value ms) =
-    and_then (with_member index labels name value) (λ more.
-    with_members index more ms)
-
--- the labels: an object; the metric's name comes first, then the others
-abbrev pub labels_of : ℕ → Data → Reading Texts
-labels_of index d =
-    and_then (required WRONG_TYPE (labels_path index) (as_object d)) (λ ms.
-    and_then (metric_of index d) (λ name.
-    with_members index (labels_with [] METRIC_NAME.now name) ms))
+-- the labels; one with the empty text is an absent one
+abbrev pub labels_of : Data → Texts
+labels_of d = labels_with_all [] (texts_of d)
 
 -- the value: a whole number that 64 bits with a sign hold
-abbrev pub value_of : ℕ → Data → Reading ℤ
-value_of index d =
-    and_then (required WRONG_TYPE (value_path index) (as_number d)) (λ n.
-    required BAD_NUMBER (value_path index) (as_i64 n))
+unfoldable pub value : Check
+value path d = option_map_or (λ n. unless (is_some (as_i64 n)) BAD_NUMBER path) (as_number d) (wrong WRONG_TYPE path)
 
--- the sample of its labels and its value
-abbrev pub sample_from : Texts → ℤ → Sample
-sample_from labels value = record { labels = labels; value = value }
+-- the value, or 0
+abbrev pub value_of : Data → ℤ
+value_of d = unwrap_or (option_and_then as_i64 (as_number d)) (pos 0)
+
+-- the two items, where there are exactly two
+abbrev pub two_of : Items → Option (Data × Data)
+two_of no_items = None
+two_of (item d no_items) = None
+two_of (item d (item e no_items)) = Some (d, e)
+two_of (item d (item e (item f ds))) = None
+
+-- the two items that a value is a list of
+abbrev pub pair : Data → Option (Data × Data)
+pair d = option_and_then two_of (as_array d)
 
 -- the labels come before the value
-abbrev pub parts_of : ℕ → Data → Data → Reading Sample
-parts_of index labels value =
-    and_then (labels_of index labels) (λ read.
-    and_then (value_of index value) (λ n.
-    Ok (sample_from read n)))
+abbrev pub parts_wrongs : List ℕ → Data × Data → List Shape
+parts_wrongs path parts = labels (path_at path 0) parts.0 ++ value (path_at path 1) parts.1
 
--- the sample with that number: a list of exactly two
-abbrev pub sample_of : ℕ → Data → Reading Sample
-sample_of index d =
-    and_then (required WRONG_TYPE (sample_path index) (pair d)) (λ parts.
-    parts_of index parts.0 parts.1)
+-- a sample: a list of exactly two
+unfoldable pub sample : Check
+sample path d = option_map_or (parts_wrongs path) (pair d) (wrong WRONG_TYPE path)
+
+-- the sample of its labels and its value
+abbrev pub parts_of : Data × Data → Sample
+parts_of parts = record { labels = labels_of parts.0; value = value_of parts.1 }
+
+-- the sample of no list of two, which is a breach: no labels, and 0
+abbrev pub no_sample : Sample
+no_sample = record { labels = []; value = pos 0 }
+
+-- the sample
+abbrev pub sample_of : Data → Sample
+sample_of d = option_map_or parts_of (pair d) no_sample

@@ -1,15 +1,14 @@
-//! Input lines: what the bytes of a line ask for, or which shape rule they break first, and where.
+//! Input lines: what the bytes of a line ask for, or which rule on shape they break first, and where.
 //!
-//! [`read_line`] reads a page, a tick or a line that isn't read yet. Read `specs/Lines.antt` first,
-//! then `specs/Pages.antt`.
+//! [`read_line`] reads a page, a tick or a line that isn't read yet, by the readers of `op_manifest`. Read
+//! `specs/Lines.antt` first, then `specs/Pages.antt`.
 #![tactic(auto)]
 
-mod fields;
+mod keys;
+mod labels;
 mod line;
-mod number;
 mod page;
 mod sample;
-mod shape;
+mod tick;
 
 pub use line::{InputLine, is_blank, read_line};
-pub use shape::{Shape, ShapeRule};

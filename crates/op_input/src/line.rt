@@ -1,16 +1,15 @@
-ghost use Rattle.std.specs.Prelude.{◌≡◌, codes, IfOk};
-ghost use Rattle.serde_json.specs.View.{view};
-ghost use Rattle.op_input.specs.Fields as fields;
+ghost use Rattle.std.specs.Prelude.{◌≡◌, [], IfOk};
+ghost use Rattle.op_manifest.specs.Trees.{data_of};
+ghost use Rattle.op_manifest.specs.Shapes.{Adds};
+ghost use Rattle.op_manifest.specs.Shapes as shapes;
 ghost use Rattle.op_input.specs.Lines as spec;
-ghost use Rattle.op_input.specs.Pages as pages;
 
-use crate::fields::only_field;
-use crate::number::moment;
-use crate::page::page_line;
-use crate::shape::{Shape, ShapeRule, at_whole};
+use crate::keys::only_field;
+use crate::page::noted_page;
+use crate::tick::noted_moment;
 use op_base::{List, Moment, NoMemory, Text};
 use op_json::read_json;
-use serde_json::Value;
+use op_manifest::{Shape, ShapeRule, Tree, tell, tree_from};
 use srv_scrape::Sample;
 use std::alloc::Global;
 
@@ -26,7 +25,8 @@ pub enum InputLine {
     Tick(Moment),
     /// Its key isn't read yet.
     NotYet,
-    /// A shape rule is broken.
+    /// A rule on shape is broken. The path is counted from the value of the line's key; it is empty where that whole
+    /// value, or the line itself, is wrong.
     Bad(Shape),
 }
 
@@ -44,74 +44,83 @@ fn is_blank_byte(b: u8) -> bool
 }
 
 /// What the bytes of a line ask for. They have no newline; a blank line is no JSON.
+#[tactic(auto, using(op_manifest::proofs::ShapeLemmas::later_first), unfolding(crate::specs::Lines::line_of))]
 pub fn read_line(alloc: Global, bytes: &[u8]) -> Result<InputLine, NoMemory>
     ensures line { IfOk result (λ line. line ≡ spec.line_of bytes.now) }
     ensures within { IfOk result spec.IsWithin }
 {
+    let mut found = None;
+    let line = noted_line(&mut found, alloc, bytes)?;
+    Ok(line_or_breach(line, found))
+}
+
+// The first breach stands for the line.
+fn line_or_breach(line: InputLine, found: Option<Shape>) -> InputLine
+    requires { spec.IsWithin line }
+    ensures line { result ≡ spec.line_or_breach line found }
+    ensures within { spec.IsWithin result }
+{
+    match found {
+        Some(shape) => InputLine::Bad(shape),
+        None => line,
+    }
+}
+
+fn noted_line(found: &mut Option<Shape>, alloc: Global, bytes: &[u8]) -> Result<InputLine, NoMemory>
+    ensures line { Adds (λ line. line) found.old found.new result (spec.line_wrongs bytes.now) (spec.asked_of bytes.now) }
+    ensures within { IfOk result spec.IsWithin }
+{
     match read_json(alloc, bytes)? {
-        Some(value) => line_of(alloc, &value),
-        None => Ok(InputLine::Bad(at_whole(alloc, ShapeRule::NOT_JSON))),
+        Some(value) => {
+            let tree = tree_from(alloc, &value)?;
+            noted_value(found, alloc, &tree)
+        }
+        None => {
+            tell(found, ShapeRule::NOT_JSON, Text::new(alloc));
+            Ok(InputLine::NotYet)
+        }
     }
 }
 
-fn line_of(alloc: Global, value: &Value) -> Result<InputLine, NoMemory>
-    ensures line { IfOk result (λ line. line ≡ spec.line_of_json (Some (view value.now))) }
+fn noted_value(found: &mut Option<Shape>, alloc: Global, tree: &Tree) -> Result<InputLine, NoMemory>
+    ensures line { Adds (λ line. line) found.old found.new result
+        (spec.value_wrongs (data_of tree.now)) (spec.value_of (data_of tree.now)) }
     ensures within { IfOk result spec.IsWithin }
 {
-    match only_field(value, "page") {
-        Some(page) => page_of(alloc, page),
-        None => no_page(alloc, value),
+    match only_field(tree, "page") {
+        Some(page) => noted_page(found, alloc, page),
+        None => Ok(noted_other(found, alloc, tree)),
     }
 }
 
-fn page_of(alloc: Global, value: &Value) -> Result<InputLine, NoMemory>
-    ensures line { IfOk result (λ line. line ≡ spec.line_from (pages.page_of (view value.now))) }
-    ensures within { IfOk result spec.IsWithin }
-{
-    match page_line(alloc, value)? {
-        Ok(line) => Ok(line),
-        Err(shape) => Ok(InputLine::Bad(shape)),
-    }
-}
-
-fn no_page(alloc: Global, value: &Value) -> Result<InputLine, NoMemory>
-    ensures line { IfOk result (λ line. line ≡ spec.no_page (view value.now) (fields.only_field (codes "tick") (view value.now))) }
-    ensures within { IfOk result spec.IsWithin }
-{
-    match only_field(value, "tick") {
-        Some(tick) => Ok(tick_of(alloc, tick)),
-        None => Ok(other_line(alloc, value)),
-    }
-}
-
-fn tick_of(alloc: Global, value: &Value) -> InputLine
-    ensures line { result ≡ spec.line_from (spec.tick_of (view value.now)) }
+fn noted_other(found: &mut Option<Shape>, alloc: Global, tree: &Tree) -> InputLine
+    ensures wrongs { found.new ≡ shapes.later found.old (spec.other_wrongs (data_of tree.now)) }
+    ensures line { result ≡ spec.other_of (data_of tree.now) }
     ensures within { spec.IsWithin result }
 {
-    match value.as_number() {
-        Some(number) => match moment(number) {
-            Some(moment) => InputLine::Tick(moment),
-            None => InputLine::Bad(at_whole(alloc, ShapeRule::BAD_NUMBER)),
-        },
-        None => InputLine::Bad(at_whole(alloc, ShapeRule::WRONG_TYPE)),
+    match only_field(tree, "tick") {
+        Some(tick) => InputLine::Tick(noted_moment(found, alloc, tick)),
+        None => {
+            note_key(found, alloc, tree);
+            InputLine::NotYet
+        }
     }
 }
 
-fn other_line(alloc: Global, value: &Value) -> InputLine
-    ensures line { result ≡ spec.other_line (view value.now) }
-    ensures within { spec.IsWithin result }
+#[tactic(auto, using(op_manifest::proofs::ShapeLemmas::later_none))]
+fn note_key(found: &mut Option<Shape>, alloc: Global, tree: &Tree)
+    ensures { found.new ≡ shapes.later found.old
+        (shapes.unless (spec.is_not_yet (data_of tree.now)) ShapeRule.UNKNOWN_KIND []) }
 {
-    if is_not_yet(value) {
-        InputLine::NotYet
-    } else {
-        InputLine::Bad(at_whole(alloc, ShapeRule::UNKNOWN_KIND))
+    if !is_not_yet(tree) {
+        tell(found, ShapeRule::UNKNOWN_KIND, Text::new(alloc));
     }
 }
 
-fn is_not_yet(value: &Value) -> bool
-    ensures { result ≡ spec.is_not_yet (view value.now) }
+fn is_not_yet(tree: &Tree) -> bool
+    ensures { result ≡ spec.is_not_yet (data_of tree.now) }
 {
-    only_field(value, "put").is_some()
-        || only_field(value, "delete").is_some()
-        || only_field(value, "targets").is_some()
+    only_field(tree, "put").is_some()
+        || only_field(tree, "delete").is_some()
+        || only_field(tree, "targets").is_some()
 }

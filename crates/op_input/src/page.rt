@@ -1,88 +1,75 @@
-ghost use Rattle.std.specs.Prelude.{◌≡◌, option_map, codes, IfOk};
-ghost use Rattle.serde_json.specs.View.{view, items_view};
+ghost use Rattle.std.specs.Prelude.{[], codes, IfOk};
+ghost use Rattle.op_manifest.specs.Trees.{data_of, items_in};
+ghost use Rattle.op_manifest.specs.Shapes.{Adds};
+ghost use Rattle.op_manifest.specs.Checks as check;
+ghost use Rattle.op_manifest.specs.Values as value;
+ghost use Rattle.op_input.specs.Lines.{IsWithin};
+ghost use Rattle.op_input.specs.Samples.{sample, sample_of};
 ghost use Rattle.op_input.specs.Pages as spec;
 
-use crate::fields::field;
 use crate::line::InputLine;
-use crate::sample::sample;
-use crate::shape::{Shape, ShapeRule, at_field, at_whole};
+use crate::sample::noted_sample;
 use op_base::{List, NoMemory, Text};
-use op_json::stray;
-use serde_json::Value;
+use op_manifest::{Shape, ShapeRule, Tree, given, needed_text, noted_known, path_at, tell};
 use srv_scrape::Sample;
 use std::alloc::Global;
 
-/// The page that the value is, or the first breach in it.
-pub fn page_line(alloc: Global, value: &Value) -> Result<Result<InputLine, Shape>, NoMemory>
-    ensures { IfOk result (λ line. line ≡ spec.page_of (view value.now)) }
-{
-    match value.as_object() {
-        Some(members) => match stray(members, &["url", "samples"]) {
-            Some(name) => Ok(Err(at_field(alloc, ShapeRule::UNKNOWN_FIELD, name)?)),
-            None => parts_of(alloc, value),
-        },
-        None => Ok(Err(at_whole(alloc, ShapeRule::WRONG_TYPE))),
-    }
-}
-
-fn parts_of(alloc: Global, value: &Value) -> Result<Result<InputLine, Shape>, NoMemory>
-    ensures { IfOk result (λ line. line ≡ spec.parts_of (view value.now)) }
-{
-    let url = match url_of(alloc, value)? {
-        Ok(url) => url,
-        Err(shape) => return Ok(Err(shape)),
-    };
-    match samples_of(alloc, field(value, "samples"))? {
-        Ok(samples) => Ok(Ok(InputLine::Page { url, samples })),
-        Err(shape) => Ok(Err(shape)),
-    }
-}
-
-fn url_of(alloc: Global, page: &Value) -> Result<Result<Text, Shape>, NoMemory>
-    ensures { IfOk result (λ url. url ≡ spec.url_of (view page.now)) }
-{
-    match field(page, "url") {
-        Some(value) => match value.as_str() {
-            Some(url) => Ok(Ok(Text::from_str(alloc, url)?)),
-            None => Ok(Err(at_field(alloc, ShapeRule::WRONG_TYPE, "url")?)),
-        },
-        None => Ok(Err(at_field(alloc, ShapeRule::MISSING, "url")?)),
-    }
-}
-
-fn samples_of(
+/// The page that the value is.
+pub fn noted_page(
+    found: &mut Option<Shape>,
     alloc: Global,
-    value: Option<&Value>,
-) -> Result<Result<Option<List<Sample>>, Shape>, NoMemory>
-    ensures { IfOk result (λ samples. samples ≡ spec.samples_of (option_map (λ v. view v.now) value.entry)) }
+    tree: &Tree,
+) -> Result<InputLine, NoMemory>
+    ensures page { Adds (λ page. page) found.old found.new result
+        (check.table spec.page_rows [] (data_of tree.now)) (spec.page_of (data_of tree.now)) }
+    ensures within { IfOk result IsWithin }
 {
-    match value {
-        Some(value) => samples_in(alloc, value),
-        None => Ok(Ok(None)),
-    }
+    noted_known(found, alloc, tree, &["url", "samples"], "")?;
+    let url = needed_text(found, alloc, tree, "url", "")?;
+    let samples = noted_samples(found, alloc, tree)?;
+    Ok(InputLine::Page { url, samples })
 }
 
-fn samples_in(alloc: Global, value: &Value) -> Result<Result<Option<List<Sample>>, Shape>, NoMemory>
-    ensures { IfOk result (λ samples. samples ≡ spec.samples_of (Some (view value.now))) }
+#[tactic(auto, using(op_manifest::proofs::ShapeLemmas::later_none), unfolding(op_manifest::specs::Checks::optional, op_manifest::specs::Checks::list, op_manifest::specs::Values::items_in))]
+fn noted_samples(
+    found: &mut Option<Shape>,
+    alloc: Global,
+    tree: &Tree,
+) -> Result<Option<List<Sample>>, NoMemory>
+    ensures { Adds (λ samples. samples) found.old found.new result
+        (check.optional (check.list sample) (codes "samples") [] (data_of tree.now))
+        (value.items_in sample_of (codes "samples") (data_of tree.now)) }
 {
-    match value.as_array() {
-        Some(items) => match samples_from(alloc, items.as_slice())? {
-            Ok(samples) => Ok(Ok(Some(samples))),
-            Err(shape) => Ok(Err(shape)),
+    match given(tree, "samples") {
+        Some(list) => match list.as_items() {
+            Some(items) => Ok(Some(read_samples(found, alloc, items, "samples")?)),
+            None => {
+                tell(
+                    found,
+                    ShapeRule::WRONG_TYPE,
+                    Text::from_str(alloc, "samples")?,
+                );
+                Ok(None)
+            }
         },
-        None => Ok(Err(at_field(alloc, ShapeRule::WRONG_TYPE, "samples")?)),
+        None => Ok(None),
     }
 }
 
-fn samples_from(alloc: Global, values: &[Value]) -> Result<Result<List<Sample>, Shape>, NoMemory>
-    ensures { IfOk result (λ samples. samples ≡ spec.samples_from 0 (items_view values.now)) }
+fn read_samples(
+    found: &mut Option<Shape>,
+    alloc: Global,
+    items: &[Tree],
+    path: &str,
+) -> Result<List<Sample>, NoMemory>
+    ensures { Adds (λ samples. samples) found.old found.new result
+        (check.items_from sample path.now 0 (items_in items.now))
+        (value.each_of sample_of (items_in items.now)) }
 {
-    let mut samples = List::new(alloc);
-    for index in 0..values.len() {
-        match sample(alloc, index, &values[index])? {
-            Ok(one) => samples.push(one)?,
-            Err(shape) => return Ok(Err(shape)),
-        }
+    let mut all = List::new(alloc);
+    for index in 0..items.len() {
+        let path = path_at(alloc, path, index)?;
+        all.push(noted_sample(found, alloc, &items[index], path.as_str())?)?;
     }
-    Ok(Ok(samples))
+    Ok(all)
 }

@@ -45,6 +45,10 @@ entries_of (member key d ms) = entry_of key d ++ entries_of ms
 abbrev pub map_of : Members → Texts
 map_of ms = in_order text_cmp (entries_of ms)
 
+-- the map that a value is; what is no object has no entry
+unfoldable pub texts_of : Data → Texts
+texts_of d = option_map_or map_of (as_object d) []
+
 -- the map of a field
 unfoldable pub map_in : List ℕ → Data → Option Texts
 map_in name d = option_map map_of (option_and_then as_object (field name d))

@@ -1,5 +1,5 @@
 // Readers of fields that note the first breach, and read on.
-ghost use Rattle.std.specs.Prelude.{◌≡◌, option_map, is_some, nat_le, Some, None, if◌then◌else◌, OnOk};
+ghost use Rattle.std.specs.Prelude.{◌≡◌, ◌≤◌, option_map, is_some, nat_le, Some, None, if◌then◌else◌, IfSome, OnOk};
 ghost use Rattle.serde_json.specs.View.{number_view};
 ghost use Rattle.op_manifest.specs.Trees.{data_of};
 ghost use Rattle.op_manifest.specs.Shapes.{Adds};
@@ -127,8 +127,10 @@ fn number_or_breach(
     Ok(whole)
 }
 
-fn number_within(number: &Number) -> Option<u64>
-    ensures { result ≡ check.number_within (number_view number.now) }
+/// The number, where it is whole and from 0 to 2^53.
+pub fn number_within(number: &Number) -> Option<u64>
+    ensures number { result ≡ check.number_within (number_view number.now) }
+    ensures within { IfSome result (λ whole. whole ≤ LAST_MOMENT) }
 {
     match number.as_u64() {
         Some(whole) => up_to_the_last(whole),
@@ -137,7 +139,8 @@ fn number_within(number: &Number) -> Option<u64>
 }
 
 fn up_to_the_last(whole: u64) -> Option<u64>
-    ensures { result ≡ (if nat_le whole LAST_MOMENT then Some whole else None) }
+    ensures number { result ≡ (if nat_le whole LAST_MOMENT then Some whole else None) }
+    ensures within { IfSome result (λ n. n ≤ LAST_MOMENT) }
 {
     if whole <= LAST_MOMENT {
         Some(whole)

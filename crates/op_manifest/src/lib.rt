@@ -27,7 +27,7 @@ mod strays;
 mod tree;
 
 pub use am_spec::{AmSpec, noted_am_spec, read_am_spec};
-pub use fields::{given, noted_flag, noted_number, noted_span, noted_text};
+pub use fields::{given, noted_flag, noted_number, noted_span, noted_text, number_within};
 pub use forms::{
     AnyText, LabelName, NamespaceName, ObjectName, TagKey, TagValue, TextForm, note_worded,
     noted_worded, noted_worded_items, required_worded,
@@ -36,7 +36,7 @@ pub use head::{Head, key_of, note_object, noted_head};
 pub use items::{Item, noted_items, or_none};
 pub use kinds::kind_of;
 pub use lists::read_items;
-pub use maps::noted_map;
+pub use maps::{noted_entries, noted_map};
 pub use matching::InhibitRule;
 pub use namespaces::NamespaceSelector;
 pub use operator::Operator;
@@ -48,5 +48,5 @@ pub use reference::{SecretRef, noted_reference, required_reference, secret_at};
 pub use route::{Route, read_route};
 pub use selector::{noted_selector, required_selector, selector_at};
 pub use shape::{Shape, ShapeFault, ShapeRule, path_at, path_to, tell};
-pub use strays::noted_known;
+pub use strays::{is_null, noted_known};
 pub use tree::{Form, Tree, tree_from};

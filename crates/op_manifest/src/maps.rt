@@ -48,6 +48,28 @@ pub fn noted_map<K: TextForm, V: TextForm>(
     }
 }
 
+/// The map that the value is: keys of the form `K` with texts of the form `V`. An entry that is null is no entry, and
+/// what is no object has none.
+#[tactic(auto, unfolding(crate::specs::Checks::keyed, crate::specs::Maps::texts_of))]
+pub fn noted_entries<K: TextForm, V: TextForm>(
+    found: &mut Option<Shape>,
+    alloc: Global,
+    tree: &Tree,
+    path: &str,
+) -> Result<Tags, NoMemory>
+    ensures { Adds (λ map. map) found.old found.new result
+        (maps.texts_by K.passes K.broken V.passes V.broken path.now (data_of tree.now))
+        (maps.texts_of (data_of tree.now)) }
+{
+    match tree.as_fields() {
+        Some(fields) => read_entries::<K, V>(found, alloc, fields, path),
+        None => {
+            tell(found, ShapeRule::WRONG_TYPE, Text::from_str(alloc, path)?);
+            Ok(Tags::new(alloc))
+        }
+    }
+}
+
 fn read_entries<K: TextForm, V: TextForm>(
     found: &mut Option<Shape>,
     alloc: Global,

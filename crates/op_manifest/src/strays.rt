@@ -64,7 +64,8 @@ fn may_stand(name: &str, value: &Tree, names: &[&str]) -> bool
     is_null(value) || is_among(name, names)
 }
 
-fn is_null(tree: &Tree) -> bool
+/// Whether the tree is null, which counts as absent.
+pub fn is_null(tree: &Tree) -> bool
     ensures { result ≡ reading.is_null (data_of tree.now) }
 {
     match tree {

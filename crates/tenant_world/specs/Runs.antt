@@ -7,7 +7,7 @@ use Rattle.op_base.specs.Keys.{key_text}
 use Rattle.cfg_types.specs.declared.config.Config.{Config}
 use Rattle.op_input.specs.declared.line.InputLine.{InputLine}
 use Rattle.op_input.specs.declared.line.InputLine.TheVariants.{Page, Tick, NotYet as NotYetInput, Bad}
-use Rattle.op_input.specs.Shapes.{rule_text}
+use Rattle.op_manifest.specs.Shapes.{rule_text}
 use Rattle.op_report.specs.declared.view.Report.{Report}
 use Rattle.op_report.specs.declared.view.View.{View}
 use Rattle.op_report.specs.declared.view.View.TheVariants as view
