@@ -1,4 +1,5 @@
 pub mod EventLaws
+mod EnforcedFiles
 mod KeyLemmas
 mod LineLaws
 mod MemoryLaws

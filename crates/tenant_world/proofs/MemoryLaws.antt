@@ -1,5 +1,6 @@
 -- A tick of everyone is seen by a namespace as the tick of its own scrapes and rules.
 use Rattle.std.proofs.Common.{◌≡◌, ℕ, List, [], ◌∷◌, ◌++◌, map, filter, length, drop, refl, sym, ap, ◌∙◌}
+use Rattle.std.specs.List.{AllByRecursion}
 use Rattle.op_base.specs.declared.moment.Moment.{Moment}
 use Rattle.op_base.specs.Labels.{Texts}
 use Rattle.cfg_types.specs.declared.config.RuleFile.{RuleFile}
@@ -9,11 +10,10 @@ use Rattle.srv_scrape.specs.Ticks.{tick_entries}
 use Rattle.srv_rule.specs.Rounds.{Ran, round_of}
 use Rattle.srv_run.specs.Memories.{Memory, Ticked, with_scrapes, ticked}
 use Rattle.srv_run.specs.Shares.{failed_of}
-use Rattle.op_thin.specs.declared.recording.Recording.{Recording}
-use Rattle.op_thin.specs.Compiled.{file_of}
-use Rattle.tenant_world.specs.Tenants.{home_label, written_file}
+use Rattle.tenant_world.specs.Tenants.{home_label}
+use Rattle.tenant_world.proofs.EnforcedFiles.{enforced_file, IsFineFile, is_of}
 use Rattle.tenant_world.proofs.RoundLaws.{states_of, ran_of, OwnStates}
-use Rattle.tenant_world.proofs.RulesLaws.{HaveHomes, is_of, Adds, adds-more, round-of, round-own, round-adds}
+use Rattle.tenant_world.proofs.RulesLaws.{Adds, adds-more, round-of, round-own, round-adds}
 use Rattle.tenant_world.proofs.StoreLaws.{of-append, with_all-of}
 use Rattle.tenant_world.proofs.TickLaws.{label_sets-of, tick_entries-of}
 
@@ -49,17 +49,17 @@ added-of n old new own (added, is) seen =
     ∙ sym (drop-append (of_namespace n old) (of_namespace n added))
     ∙ ap (drop (length (of_namespace n old))) (sym (of-append n old added) ∙ sym (ap (of_namespace n) is) ∙ seen)
 
-module _ (n : List ℕ) (entries : List Entry) (rules : List Recording) (memory : Memory) (t : Moment) (homes : HaveHomes rules) (states : OwnStates memory.states) where
-  ran-seen : ran_of n (round_of (map file_of rules) [] [] t memory.states (with_scrapes entries memory t))
-      ≡ round_of (map written_file (filter (is_of n) rules)) (home_label n) (home_label n) t (states_of n memory.states) (with_scrapes (of_namespace n entries) (memory_of n memory) t)
+module _ (n : List ℕ) (entries : List Entry) (files : List RuleFile) (memory : Memory) (t : Moment) (fine : AllByRecursion IsFineFile files) (states : OwnStates memory.states) where
+  ran-seen : ran_of n (round_of (map enforced_file files) [] [] t memory.states (with_scrapes entries memory t))
+      ≡ round_of (filter (is_of n) files) (home_label n) (home_label n) t (states_of n memory.states) (with_scrapes (of_namespace n entries) (memory_of n memory) t)
   ran-seen =
-      round-of n rules t memory.states (with_scrapes entries memory t) homes states
-      ∙ ap (round_of (map written_file (filter (is_of n) rules)) (home_label n) (home_label n) t (states_of n memory.states)) (scrapes-of n entries memory t)
+      round-of n files t memory.states (with_scrapes entries memory t) fine states
+      ∙ ap (round_of (filter (is_of n) files) (home_label n) (home_label n) t (states_of n memory.states)) (scrapes-of n entries memory t)
 
-  pub ticked-of : ticked_of n (ticked entries (map file_of rules) [] [] memory t)
-      ≡ ticked (of_namespace n entries) (map written_file (filter (is_of n) rules)) (home_label n) (home_label n) (memory_of n memory) t
+  pub ticked-of : ticked_of n (ticked entries (map enforced_file files) [] [] memory t)
+      ≡ ticked (of_namespace n entries) (filter (is_of n) files) (home_label n) (home_label n) (memory_of n memory) t
   ticked-of =
-      let server = ticked entries (map file_of rules) [] [] memory t in
+      let server = ticked entries (map enforced_file files) [] [] memory t in
       let store_seen = ap (λ (ran : Ran). ran.store) ran-seen in
       λ i. record {
         memory = record {
@@ -68,8 +68,8 @@ module _ (n : List ℕ) (entries : List Entry) (rules : List Recording) (memory 
           states = ap (λ (ran : Ran). ran.states) ran-seen i;
         };
         failed = ap (λ (ran : Ran). ran.failed) ran-seen i;
-        added = added-of n memory.store server.memory.store _ (tick-adds entries (map file_of rules) [] [] memory t) store_seen i;
+        added = added-of n memory.store server.memory.store _ (tick-adds entries (map enforced_file files) [] [] memory t) store_seen i;
       }
 
-  pub ticked-own : OwnStates (ticked entries (map file_of rules) [] [] memory t).memory.states
-  ticked-own = round-own rules t memory.states (with_scrapes entries memory t) homes states
+  pub ticked-own : OwnStates (ticked entries (map enforced_file files) [] [] memory t).memory.states
+  ticked-own = round-own files t memory.states (with_scrapes entries memory t) fine states

@@ -9,52 +9,44 @@ use Rattle.std.specs.FinMap.Entries.{by_order, put, where_key, is_sorted, is_sor
 use Rattle.op_base.specs.Maps.{Map, values_of, with_entry}
 use Rattle.cfg_types.specs.declared.config.RuleFile.{RuleFile}
 use Rattle.cfg_types.specs.Written.{file_text}
-use Rattle.op_thin.specs.declared.recording.Recording.{Recording}
-use Rattle.op_thin.specs.FileOrder.{in_order}
+use Rattle.op_thin.specs.FileOrder.{files_by_text, in_order}
 use Rattle.srv_store.proofs.OrderLemmas.{text_same}
 use Rattle.tenant_world.proofs.KeyLemmas.{where_key-put_kept, where_key-put_dropped}
-use Rattle.tenant_world.proofs.RulesLaws.{is_of}
+use Rattle.tenant_world.proofs.EnforcedFiles.{is_of}
 
 abbrev by_bytes : List ℕ → List ℕ → Ordering
 by_bytes = slice_cmp nat_cmp
 
--- the text of a rule's object
-abbrev pub rule_text : Recording → List ℕ
-rule_text r = r.namespace ++ codes "/" ++ r.name
+abbrev placing : Map RuleFile → RuleFile → Map RuleFile
+placing placed file = with_entry placed (file_text file) file
 
-abbrev placing : Map Recording → Recording → Map Recording
-placing placed r = with_entry placed (rule_text r) r
-
--- rules in the order of these texts
-abbrev pub ordered : List Recording → List Recording
-ordered rules = values_of (fold placing [] rules)
-
-module _ (f : Recording → RuleFile) (texts : (r : Recording) → file_text (f r) ≡ rule_text r) where
-  abbrev filed : Map Recording → Map RuleFile
+-- files that become others of the same text stay in their order
+module _ (f : RuleFile → RuleFile) (texts : (file : RuleFile) → file_text (f file) ≡ file_text file) where
+  abbrev filed : Map RuleFile → Map RuleFile
   filed placed = map (λ e. (e.0, f e.1)) placed
 
-  put-filed : (key : List ℕ) (r : Recording) (m : Map Recording) → put by_bytes key (f r) (filed m) ≡ filed (put by_bytes key r m)
-  put-filed key r [] = refl
-  put-filed key r (e ∷ m) =
-      elim (by_bytes key e.0) as (λ o. by_order o ((key, f r) ∷ filed (e ∷ m)) ((e.0, f r) ∷ filed m) ((e.0, f e.1) ∷ put by_bytes key (f r) (filed m))
-      ≡ filed (by_order o ((key, r) ∷ e ∷ m) ((e.0, r) ∷ m) (e ∷ put by_bytes key r m))) [
+  put-filed : (key : List ℕ) (file : RuleFile) (m : Map RuleFile) → put by_bytes key (f file) (filed m) ≡ filed (put by_bytes key file m)
+  put-filed key file [] = refl
+  put-filed key file (e ∷ m) =
+      elim (by_bytes key e.0) as (λ o. by_order o ((key, f file) ∷ filed (e ∷ m)) ((e.0, f file) ∷ filed m) ((e.0, f e.1) ∷ put by_bytes key (f file) (filed m))
+      ≡ filed (by_order o ((key, file) ∷ e ∷ m) ((e.0, file) ∷ m) (e ∷ put by_bytes key file m))) [
         | Less ↦ refl
         | Equal ↦ refl
-        | Greater ↦ ap (λ l. (e.0, f e.1) ∷ l) (put-filed key r m)
+        | Greater ↦ ap (λ l. (e.0, f e.1) ∷ l) (put-filed key file m)
       ]
 
-  fold-filed : (rules : List Recording) (m : Map Recording) → fold (λ placed file. with_entry placed (file_text file) file) (filed m) (map f rules) ≡ filed (fold placing m rules)
+  fold-filed : (files : List RuleFile) (m : Map RuleFile) → fold placing (filed m) (map f files) ≡ filed (fold placing m files)
   fold-filed [] m = refl
-  fold-filed (r ∷ rules) m =
-      ap (λ (x : Map RuleFile). fold (λ placed file. with_entry placed (file_text file) file) x (map f rules)) (ap (λ key. put by_bytes key (f r) (filed m)) (texts r) ∙ put-filed (rule_text r) r m)
-      ∙ fold-filed rules (placing m r)
+  fold-filed (file ∷ files) m =
+      ap (λ (x : Map RuleFile). fold placing x (map f files)) (ap (λ key. put by_bytes key (f file) (filed m)) (texts file) ∙ put-filed (file_text file) file m)
+      ∙ fold-filed files (placing m file)
 
-  values-filed : (m : Map Recording) → values_of (filed m) ≡ map f (values_of m)
+  values-filed : (m : Map RuleFile) → values_of (filed m) ≡ map f (values_of m)
   values-filed [] = refl
   values-filed (e ∷ m) = ap (λ l. f e.1 ∷ l) (values-filed m)
 
-  pub in_order-map : (rules : List Recording) → in_order (map f rules) ≡ map f (ordered rules)
-  in_order-map rules = ap values_of (fold-filed rules []) ∙ values-filed (fold placing [] rules)
+  pub in_order-map : (files : List RuleFile) → in_order (map f files) ≡ map f (in_order files)
+  in_order-map files = ap values_of (fold-filed files []) ∙ values-filed (files_by_text files)
 
 -- what stands before the first slash
 abbrev before_slash : List ℕ → List ℕ
@@ -69,19 +61,19 @@ name_before [] rest h = refl
 name_before (b ∷ name) rest h =
     ap (λ t. cond t [] (b ∷ before_slash (name ++ codes "/" ++ rest))) h.0 ∙ ap (λ l. b ∷ l) (name_before name rest h.1)
 
-abbrev pub HaveNoSlash : List Recording → Type 0
-HaveNoSlash rules = AllByRecursion (λ (r : Recording). HasNoSlash r.namespace) rules
+abbrev pub HaveNoSlash : List RuleFile → Type 0
+HaveNoSlash files = AllByRecursion (λ (r : RuleFile). HasNoSlash r.namespace) files
 
--- each key tells its rule's namespace
-abbrev Tells : Map Recording → Type 0
-Tells m = AllByRecursion (λ (e : List ℕ × Recording). before_slash e.0 ≡ e.1.namespace) m
+-- each key tells its file's namespace
+abbrev Tells : Map RuleFile → Type 0
+Tells m = AllByRecursion (λ (e : List ℕ × RuleFile). before_slash e.0 ≡ e.1.namespace) m
 
-tells-put : (m : Map Recording) (r : Recording) → HasNoSlash r.namespace → Tells m → Tells (placing m r)
+tells-put : (m : Map RuleFile) (r : RuleFile) → HasNoSlash r.namespace → Tells m → Tells (placing m r)
 tells-put [] r free h = (name_before r.namespace r.name free, tt)
 tells-put (e ∷ m) r free h =
-    elim (by_bytes (rule_text r) e.0) as (λ o. by_bytes (rule_text r) e.0 ≡ o → Tells (by_order o ((rule_text r, r) ∷ e ∷ m) ((e.0, r) ∷ m) (e ∷ put by_bytes (rule_text r) r m))) [
+    elim (by_bytes (file_text r) e.0) as (λ o. by_bytes (file_text r) e.0 ≡ o → Tells (by_order o ((file_text r, r) ∷ e ∷ m) ((e.0, r) ∷ m) (e ∷ put by_bytes (file_text r) r m))) [
       | Less ↦ λ _. (name_before r.namespace r.name free, h)
-      | Equal ↦ λ is. (ap before_slash (sym (text_same (rule_text r) e.0 is)) ∙ name_before r.namespace r.name free, h.1)
+      | Equal ↦ λ is. (ap before_slash (sym (text_same (file_text r) e.0 is)) ∙ name_before r.namespace r.name free, h.1)
       | Greater ↦ λ _. (h.0, tells-put m r free h.1)
     ] refl
 
@@ -89,7 +81,7 @@ module _ (n : List ℕ) where
   abbrev of_key : List ℕ → Bool
   of_key key = pointwise nat_eq n (before_slash key)
 
-  values-where : (m : Map Recording) → Tells m → filter (is_of n) (values_of m) ≡ values_of (where_key by_bytes of_key m)
+  values-where : (m : Map RuleFile) → Tells m → filter (is_of n) (values_of m) ≡ values_of (where_key by_bytes of_key m)
   values-where [] h = refl
   values-where (e ∷ m) h =
       let rest = values-where m h.1 in
@@ -99,30 +91,30 @@ module _ (n : List ℕ) where
         | false ↦ rest
       ]
 
-  fold-where : (rules : List Recording) (m : Map Recording) → HaveNoSlash rules → T (is_sorted by_bytes m)
-      → where_key by_bytes of_key (fold placing m rules) ≡ fold placing (where_key by_bytes of_key m) (filter (is_of n) rules)
+  fold-where : (files : List RuleFile) (m : Map RuleFile) → HaveNoSlash files → T (is_sorted by_bytes m)
+      → where_key by_bytes of_key (fold placing m files) ≡ fold placing (where_key by_bytes of_key m) (filter (is_of n) files)
   fold-where [] m free h = refl
-  fold-where (r ∷ rules) m free h =
-      let key = rule_text r in
-      let at_key : of_key (rule_text r) ≡ is_of n r = ap (pointwise nat_eq n) (name_before r.namespace r.name free.0) in
-      let rest = fold-where rules (placing m r) free.1 (is_sorted-put by_bytes nat_list_cmp_total key r m h) in
-      elim (is_of n r) as (λ b. is_of n r ≡ b → where_key by_bytes of_key (fold placing (placing m r) rules)
-      ≡ fold placing (where_key by_bytes of_key m) (cond b (r ∷ filter (is_of n) rules) (filter (is_of n) rules))) [
-        | true ↦ λ own. rest ∙ ap (λ (x : Map Recording). fold placing x (filter (is_of n) rules)) (where_key-put_kept by_bytes nat_list_cmp_total text_same of_key key r m (at_key ∙ own) h)
-        | false ↦ λ other. rest ∙ ap (λ (x : Map Recording). fold placing x (filter (is_of n) rules)) (where_key-put_dropped by_bytes nat_list_cmp_total text_same of_key key r m (at_key ∙ other) h)
+  fold-where (r ∷ files) m free h =
+      let key = file_text r in
+      let at_key : of_key (file_text r) ≡ is_of n r = ap (pointwise nat_eq n) (name_before r.namespace r.name free.0) in
+      let rest = fold-where files (placing m r) free.1 (is_sorted-put by_bytes nat_list_cmp_total key r m h) in
+      elim (is_of n r) as (λ b. is_of n r ≡ b → where_key by_bytes of_key (fold placing (placing m r) files)
+      ≡ fold placing (where_key by_bytes of_key m) (cond b (r ∷ filter (is_of n) files) (filter (is_of n) files))) [
+        | true ↦ λ own. rest ∙ ap (λ (x : Map RuleFile). fold placing x (filter (is_of n) files)) (where_key-put_kept by_bytes nat_list_cmp_total text_same of_key key r m (at_key ∙ own) h)
+        | false ↦ λ other. rest ∙ ap (λ (x : Map RuleFile). fold placing x (filter (is_of n) files)) (where_key-put_dropped by_bytes nat_list_cmp_total text_same of_key key r m (at_key ∙ other) h)
       ] refl
 
-  fold-tells : (rules : List Recording) (m : Map Recording) → HaveNoSlash rules → Tells m → Tells (fold placing m rules)
+  fold-tells : (files : List RuleFile) (m : Map RuleFile) → HaveNoSlash files → Tells m → Tells (fold placing m files)
   fold-tells [] m free h = h
-  fold-tells (r ∷ rules) m free h = fold-tells rules (placing m r) free.1 (tells-put m r free.0 h)
+  fold-tells (r ∷ files) m free h = fold-tells files (placing m r) free.1 (tells-put m r free.0 h)
 
-  -- the namespace's rules among all in order are its own in order
-  pub ordered-of : (rules : List Recording) → HaveNoSlash rules → filter (is_of n) (ordered rules) ≡ ordered (filter (is_of n) rules)
-  ordered-of rules free = values-where (fold placing [] rules) (fold-tells rules [] free tt) ∙ ap values_of (fold-where rules [] free tt)
+  -- the namespace's files among all in order are its own in order
+  pub ordered-of : (files : List RuleFile) → HaveNoSlash files → filter (is_of n) (in_order files) ≡ in_order (filter (is_of n) files)
+  ordered-of files free = values-where (fold placing [] files) (fold-tells files [] free tt) ∙ ap values_of (fold-where files [] free tt)
 
--- what holds of each rule holds of each in order
-module _ (P : Recording → Type 0) where
-  all-put : (key : List ℕ) (r : Recording) (m : Map Recording) → P r → AllByRecursion P (values_of m) → AllByRecursion P (values_of (put by_bytes key r m))
+-- what holds of each file holds of each in order
+module _ (P : RuleFile → Type 0) where
+  all-put : (key : List ℕ) (r : RuleFile) (m : Map RuleFile) → P r → AllByRecursion P (values_of m) → AllByRecursion P (values_of (put by_bytes key r m))
   all-put key r [] p h = (p, tt)
   all-put key r (e ∷ m) p h =
       elim (by_bytes key e.0) as (λ o. AllByRecursion P (values_of (by_order o ((key, r) ∷ e ∷ m) ((e.0, r) ∷ m) (e ∷ put by_bytes key r m)))) [
@@ -131,9 +123,9 @@ module _ (P : Recording → Type 0) where
         | Greater ↦ (h.0, all-put key r m p h.1)
       ]
 
-  all-fold : (rules : List Recording) (m : Map Recording) → AllByRecursion P rules → AllByRecursion P (values_of m) → AllByRecursion P (values_of (fold placing m rules))
+  all-fold : (files : List RuleFile) (m : Map RuleFile) → AllByRecursion P files → AllByRecursion P (values_of m) → AllByRecursion P (values_of (fold placing m files))
   all-fold [] m p h = h
-  all-fold (r ∷ rules) m p h = all-fold rules (placing m r) p.1 (all-put (rule_text r) r m p.0 h)
+  all-fold (r ∷ files) m p h = all-fold files (placing m r) p.1 (all-put (file_text r) r m p.0 h)
 
-  pub all-ordered : (rules : List Recording) → AllByRecursion P rules → AllByRecursion P (ordered rules)
-  all-ordered rules p = all-fold rules [] p tt
+  pub all-ordered : (files : List RuleFile) → AllByRecursion P files → AllByRecursion P (in_order files)
+  all-ordered files p = all-fold files [] p tt

@@ -6,8 +6,8 @@ use Rattle.std.specs.Ordering.{nat_cmp}
 use Rattle.std.specs.Cmp.Lexicographic.{pointwise, bytes_decides, slice_cmp, nat_list_cmp_total}
 use Rattle.std.specs.FinMap.Entries.{by_order, put, find-put}
 use Rattle.op_base.specs.declared.moment.Moment.{Moment}
-use Rattle.op_base.specs.Maps.{without_entry}
-use Rattle.op_base.specs.Labels.{Texts, labels_with, labels_cmp}
+use Rattle.op_base.specs.Maps.{with_entry, without_entry}
+use Rattle.op_base.specs.Labels.{Texts, labels_with, labels_with_all, labels_cmp}
 use Rattle.op_base.specs.Matchers.{label_value}
 use Rattle.op_base.specs.declared.label_names.TheConstants.{METRIC_NAME, NAMESPACE_LABEL}
 use Rattle.srv_store.specs.LabelMaps.{has_labels, with_value}
@@ -17,10 +17,9 @@ use Rattle.ql_call.specs.declared.outcome.Outcome.TheVariants as outcome
 use Rattle.ql_eval.specs.Values.{value_of}
 use Rattle.ql_eval.proofs.EnforcedLaws.{value-of-enforced-home}
 use Rattle.srv_rule.specs.Recorded.{recorded_labels, gathered, results_of}
-use Rattle.srv_rule.specs.Rounds.{around}
-use Rattle.op_thin.specs.declared.recording.Recording.{Recording}
-use Rattle.op_thin.specs.Compiled.{enforced_expr}
-use Rattle.tenant_world.specs.Tenants.{home_label, written_rule}
+use Rattle.srv_rule.specs.Rounds.{around, Placed}
+use Rattle.tenant_world.specs.Tenants.{home_label}
+use Rattle.tenant_world.proofs.EnforcedFiles.{enforced_placed, IsPutLast}
 
 -- a name is equal to itself
 pub same_name : (n : List ℕ) → pointwise nat_eq n n ≡ true
@@ -37,16 +36,25 @@ owned (b ∷ n) l some =
     ap (λ o. pointwise nat_eq (b ∷ n) (unwrap_or o [])) (find-put (slice_cmp nat_cmp) nat_list_cmp_total NAMESPACE_LABEL.now NAMESPACE_LABEL.now (b ∷ n) l) ∙ same_name (b ∷ n)
 
 -- what the enforced expression comes to is what the written one does over the namespace's entries
-pub value-of-rule : (r : Recording) (store : Store) (t : Moment)
-    → value_of (around [] store t) (enforced_expr r) ≡ value_of (around (home_label r.namespace) (of_namespace r.namespace store) t) (written_rule r).expr
-value-of-rule r store t = value-of-enforced-home r.namespace r.tree store t
+pub value-of-rule : (p : Placed) (store : Store) (t : Moment)
+    → value_of (around [] store t) (enforced_placed p).rule.expr ≡ value_of (around (home_label p.namespace) (of_namespace p.namespace store) t) p.rule.expr
+value-of-rule p store t = value-of-enforced-home p.namespace p.rule.expr store t
+
+-- the labels that a rule of the configuration has
+abbrev enforced_labels : List ℕ → Texts → Texts
+enforced_labels n labels = with_entry labels NAMESPACE_LABEL.now n
 
 -- the enforced label among the rule's labels, or put over the results: the same
-pub gathered-of : (n name : List ℕ) (results elements : Vector) → gathered name ((NAMESPACE_LABEL.now, n) ∷ []) [] results elements ≡ gathered name [] (home_label n) results elements
-gathered-of n name results [] = refl
-gathered-of n name results (e ∷ es) =
-    ap (cond (has_labels results (recorded_labels name ((NAMESPACE_LABEL.now, n) ∷ []) [] e.0)) None)
-    (gathered-of n name (with_value results (recorded_labels name ((NAMESPACE_LABEL.now, n) ∷ []) [] e.0) e.1) es)
+module _ (n name : List ℕ) (labels : Texts) (last : IsPutLast n labels) where
+  recorded-of : (element : Texts) → recorded_labels name (enforced_labels n labels) [] element ≡ recorded_labels name labels (home_label n) element
+  recorded-of element = last (labels_with (without_entry element METRIC_NAME.now) METRIC_NAME.now name)
+
+  gathered-of : (results elements : Vector) → gathered name (enforced_labels n labels) [] results elements ≡ gathered name labels (home_label n) results elements
+  gathered-of results [] = refl
+  gathered-of results (e ∷ es) =
+      ap (λ l. cond (has_labels results l) None (gathered name (enforced_labels n labels) [] (with_value results l e.1) es)) (recorded-of e.0)
+      ∙ ap (cond (has_labels results (recorded_labels name labels (home_label n) e.0)) None)
+      (gathered-of (with_value results (recorded_labels name labels (home_label n) e.0) e.1) es)
 
 -- the results of a rule are its namespace's
 abbrev pub Own : List ℕ → Vector → Type 0
@@ -61,24 +69,27 @@ own-put n l v (e ∷ m) own h =
       | Greater ↦ (h.0, own-put n l v m own h.1)
     ]
 
-pub gathered-own : (n name : List ℕ) (results elements : Vector) → 0 < length n → Own n results → IfSome (gathered name ((NAMESPACE_LABEL.now, n) ∷ []) [] results elements) (Own n)
-gathered-own n name results [] some h = h
-gathered-own n name results (e ∷ es) some h =
-    let l = recorded_labels name ((NAMESPACE_LABEL.now, n) ∷ []) [] e.0 in
-    elim (has_labels results l) as (λ b. IfSome (cond b None (gathered name ((NAMESPACE_LABEL.now, n) ∷ []) [] (with_value results l e.1) es)) (Own n)) [
-      | true ↦ tt
-      | false ↦ gathered-own n name (with_value results l e.1) es some (own-put n l e.1 results (owned n (labels_with (without_entry e.0 METRIC_NAME.now) METRIC_NAME.now name) some) h)
-    ]
+module _ (n name : List ℕ) (labels : Texts) (some : 0 < length n) where
+  gathered-own : (results elements : Vector) → Own n results → IfSome (gathered name labels (home_label n) results elements) (Own n)
+  gathered-own results [] h = h
+  gathered-own results (e ∷ es) h =
+      let l = recorded_labels name labels (home_label n) e.0 in
+      elim (has_labels results l) as (λ b. IfSome (cond b None (gathered name labels (home_label n) (with_value results l e.1) es)) (Own n)) [
+        | true ↦ tt
+        | false ↦ gathered-own (with_value results l e.1) es
+            (own-put n l e.1 results (owned n (labels_with_all (labels_with (without_entry e.0 METRIC_NAME.now) METRIC_NAME.now name) labels) some) h)
+      ]
+
+  pub results-own : (given : Outcome) → IfSome (results_of name labels (home_label n) given) (Own n)
+  results-own (outcome.Vector elements) = gathered-own [] elements tt
+  results-own (outcome.Scalar v) = gathered-own [] (([], v) ∷ []) tt
+  results-own (outcome.Clash these those) = tt
+  results-own outcome.ZeroScalar = tt
 
 -- the same of what an expression comes to
-pub results-of : (n name : List ℕ) (given : Outcome) → results_of name ((NAMESPACE_LABEL.now, n) ∷ []) [] given ≡ results_of name [] (home_label n) given
-results-of n name (outcome.Vector elements) = gathered-of n name [] elements
-results-of n name (outcome.Scalar v) = gathered-of n name [] (([], v) ∷ [])
-results-of n name (outcome.Clash these those) = refl
-results-of n name outcome.ZeroScalar = refl
-
-pub results-own : (n name : List ℕ) (given : Outcome) → 0 < length n → IfSome (results_of name ((NAMESPACE_LABEL.now, n) ∷ []) [] given) (Own n)
-results-own n name (outcome.Vector elements) some = gathered-own n name [] elements some tt
-results-own n name (outcome.Scalar v) some = gathered-own n name [] (([], v) ∷ []) some tt
-results-own n name (outcome.Clash these those) some = tt
-results-own n name outcome.ZeroScalar some = tt
+pub results-of : (n name : List ℕ) (labels : Texts) (given : Outcome) → IsPutLast n labels
+    → results_of name (with_entry labels NAMESPACE_LABEL.now n) [] given ≡ results_of name labels (home_label n) given
+results-of n name labels (outcome.Vector elements) last = gathered-of n name labels last [] elements
+results-of n name labels (outcome.Scalar v) last = gathered-of n name labels last [] (([], v) ∷ [])
+results-of n name labels (outcome.Clash these those) last = refl
+results-of n name labels outcome.ZeroScalar last = refl

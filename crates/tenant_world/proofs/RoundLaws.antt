@@ -16,12 +16,10 @@ use Rattle.srv_store.specs.LabelMaps.{has_labels, labels_in, stale_entries}
 use Rattle.srv_store.specs.Stores.{Vector, with_all, owns, of_namespace}
 use Rattle.srv_rule.specs.declared.states.RuleId.{RuleId}
 use Rattle.srv_rule.specs.declared.view.FailedRule.{FailedRule}
-use Rattle.srv_rule.specs.Rounds.{States, Ran, Placed, id_cmp, id_of, placed_at, last_of, value_entries, after_results}
+use Rattle.srv_rule.specs.Rounds.{States, Ran, Placed, id_cmp, id_of, last_of, value_entries, after_results}
 use Rattle.srv_run.specs.Shares.{failed_of}
-use Rattle.op_thin.specs.declared.recording.Recording.{Recording}
-use Rattle.op_thin.specs.Compiled.{config_rule, file_of}
-use Rattle.tenant_world.specs.Tenants.{written_rule, written_file}
 use Rattle.srv_store.proofs.OrderLemmas.{first_equal, second_equal, text_same}
+use Rattle.tenant_world.proofs.EnforcedFiles.{enforced_placed}
 use Rattle.tenant_world.proofs.KeyLemmas.{where_key-put_kept, where_key-put_dropped}
 use Rattle.tenant_world.proofs.ResultLaws.{Own, same_name, others_labels}
 use Rattle.tenant_world.proofs.StoreLaws.{of-append, with_all-of}
@@ -55,13 +53,6 @@ id_same x y h =
       place = nat_cmp-IsAntisymmetric x.place y.place d i;
       name = text_same x.name y.name e i;
     }
-
--- a rule of the configuration, and the rule as it is written
-abbrev pub enforced_placed : Recording → Placed
-enforced_placed r = placed_at (file_of r) r.group 0 (config_rule r)
-
-abbrev pub written_placed : Recording → Placed
-written_placed r = placed_at (written_file r) r.group 0 (written_rule r)
 
 -- the state is of a rule of the namespace
 abbrev pub of_home : List ℕ → RuleId → Bool
@@ -164,16 +155,16 @@ module _ (n : List ℕ) where
       filter-append (λ (f : FailedRule). pointwise nat_eq n f.namespace) failed (rule ∷ []) ∙ ap (λ b. failed_of n failed ++ cond b (rule ∷ []) []) other ∙ append-nil (failed_of n failed)
 
 -- an own rule
-module _ (r : Recording) (t : Moment) where
+module _ (r : Placed) (t : Moment) where
   abbrev n : List ℕ
   n = r.namespace
 
   pub own-results : (ran : Ran) (last : Option (List Texts)) (results : Option Vector) → IfSome results (Own r.namespace) → IfSome last (OwnSets r.namespace) → T (is_sorted id_cmp ran.states)
-      → ran_of r.namespace (after_results t ran (enforced_placed r) last results) ≡ after_results t (ran_of r.namespace ran) (written_placed r) last results
+      → ran_of r.namespace (after_results t ran (enforced_placed r) last results) ≡ after_results t (ran_of r.namespace ran) r last results
   own-results ran last None own sets h = λ i. record {
     store = of_namespace r.namespace ran.store;
-    states = states-kept r.namespace (id_of (enforced_placed r)) ran.states last (same_name r.namespace) h i;
-    failed = failed-seen r.namespace ran.failed (failed_rule (enforced_placed r)) (same_name r.namespace) i;
+    states = states-kept r.namespace (id_of r) ran.states last (same_name r.namespace) h i;
+    failed = failed-seen r.namespace ran.failed (failed_rule r) (same_name r.namespace) i;
   }
   own-results ran last (Some results) own sets h = λ i. record {
     store = (with_all-of r.namespace ran.store (value_entries t results ++ stale_entries t (unwrap_or last []) results)
@@ -181,18 +172,18 @@ module _ (r : Recording) (t : Moment) where
         (of-append r.namespace (value_entries t results) (stale_entries t (unwrap_or last []) results)
         ∙ ap (λ l. l ++ of_namespace r.namespace (stale_entries t (unwrap_or last []) results)) (values-seen r.namespace t results own)
         ∙ ap (λ l. value_entries t results ++ l) (stale-seen r.namespace t (unwrap_or last []) results (last_own r.namespace last sets)))) i;
-    states = where_key-put_kept id_cmp id_total id_same (of_home r.namespace) (id_of (enforced_placed r)) (labels_in results) ran.states (same_name r.namespace) h i;
+    states = where_key-put_kept id_cmp id_total id_same (of_home r.namespace) (id_of r) (labels_in results) ran.states (same_name r.namespace) h i;
     failed = failed_of r.namespace ran.failed;
   }
 
 -- another's rule
-module _ (n : List ℕ) (r : Recording) (t : Moment) (other : pointwise nat_eq n r.namespace ≡ false) where
+module _ (n : List ℕ) (r : Placed) (t : Moment) (other : pointwise nat_eq n r.namespace ≡ false) where
   pub other-results : (ran : Ran) (last : Option (List Texts)) (results : Option Vector) → IfSome results (Own r.namespace) → IfSome last (OwnSets r.namespace) → T (is_sorted id_cmp ran.states)
       → ran_of n (after_results t ran (enforced_placed r) last results) ≡ ran_of n ran
   other-results ran last None own sets h = λ i. record {
     store = of_namespace n ran.store;
-    states = states-dropped n (id_of (enforced_placed r)) ran.states last other h i;
-    failed = failed-unseen n ran.failed (failed_rule (enforced_placed r)) other i;
+    states = states-dropped n (id_of r) ran.states last other h i;
+    failed = failed-unseen n ran.failed (failed_rule r) other i;
   }
   other-results ran last (Some results) own sets h = λ i. record {
     store = (with_all-of n ran.store (value_entries t results ++ stale_entries t (unwrap_or last []) results)
@@ -201,6 +192,6 @@ module _ (n : List ℕ) (r : Recording) (t : Moment) (other : pointwise nat_eq n
         ∙ ap (λ l. l ++ of_namespace n (stale_entries t (unwrap_or last []) results)) (values-unseen n r.namespace t results other own)
         ∙ stale-unseen n r.namespace t (unwrap_or last []) results other (last_own r.namespace last sets))
         ∙ append-nil (of_namespace n ran.store)) i;
-    states = where_key-put_dropped id_cmp id_total id_same (of_home n) (id_of (enforced_placed r)) (labels_in results) ran.states other h i;
+    states = where_key-put_dropped id_cmp id_total id_same (of_home n) (id_of r) (labels_in results) ran.states other h i;
     failed = failed_of n ran.failed;
   }

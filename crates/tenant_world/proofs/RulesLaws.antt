@@ -13,103 +13,93 @@ use Rattle.ql_eval.specs.Values.{value_of}
 use Rattle.srv_rule.specs.Recorded.{results_of}
 use Rattle.srv_rule.specs.Rounds.{States, Ran, around, Placed, id_cmp, id_of, last_of, placed_in, placed_of, value_entries, after_results, after_rule, after_rules, gone, gone_entries, without_gone, round_of}
 use Rattle.op_base.specs.declared.label_names.TheConstants.{NAMESPACE_LABEL}
-use Rattle.op_thin.specs.declared.recording.Recording.{Recording}
-use Rattle.op_thin.specs.Compiled.{enforced_expr, file_of}
-use Rattle.tenant_world.specs.Tenants.{home_label, written_rule, written_file}
+use Rattle.tenant_world.specs.Tenants.{home_label}
+use Rattle.tenant_world.proofs.EnforcedFiles.{enforced_placed, enforced_file, IsFinePlaced, AreFine, IsFineFile, is_of, is_placed, placed-enforced, placed-fine, placed-of_home}
 use Rattle.tenant_world.proofs.KeyLemmas.{alike}
 use Rattle.tenant_world.proofs.ResultLaws.{Own, same_name, value-of-rule, results-of, results-own}
-use Rattle.tenant_world.proofs.RoundLaws.{id_total, id_same, enforced_placed, written_placed, of_home, states_of, ran_of, OwnSets, OwnStates, own-find, own-state, own-labels, stale-seen, stale-unseen, own-results, other-results}
+use Rattle.tenant_world.proofs.RoundLaws.{id_total, id_same, of_home, states_of, ran_of, OwnSets, OwnStates, own-find, own-state, own-labels, stale-seen, stale-unseen, own-results, other-results}
 use Rattle.tenant_world.proofs.StoreLaws.{of-append, with_all-of}
 
 -- what a rule of the configuration makes of the store, and what the rule as it is written makes of it
-abbrev given : Recording → Store → Moment → Option Vector
-given r store t = results_of r.record_name ((NAMESPACE_LABEL.now, r.namespace) ∷ []) [] (value_of (around [] store t) (enforced_expr r))
+abbrev given : Placed → Store → Moment → Option Vector
+given r store t = results_of r.rule.name (enforced_placed r).rule.labels [] (value_of (around [] store t) (enforced_placed r).rule.expr)
 
-given-of : (r : Recording) (store : Store) (t : Moment)
-    → given r store t ≡ results_of r.record_name [] (home_label r.namespace) (value_of (around (home_label r.namespace) (of_namespace r.namespace store) t) (written_rule r).expr)
-given-of r store t =
-    results-of r.namespace r.record_name (value_of (around [] store t) (enforced_expr r))
-    ∙ ap (results_of r.record_name [] (home_label r.namespace)) (value-of-rule r store t)
+abbrev own_given : Placed → Store → Moment → Option Vector
+own_given r store t = results_of r.rule.name r.rule.labels (home_label r.namespace) (value_of (around (home_label r.namespace) (of_namespace r.namespace store) t) r.rule.expr)
 
-given-own : (r : Recording) (store : Store) (t : Moment) → 0 < length r.namespace → IfSome (given r store t) (Own r.namespace)
-given-own r store t some = results-own r.namespace r.record_name (value_of (around [] store t) (enforced_expr r)) some
+given-of : (r : Placed) (store : Store) (t : Moment) → IsFinePlaced r → given r store t ≡ own_given r store t
+given-of r store t fine =
+    results-of r.namespace r.rule.name r.rule.labels (value_of (around [] store t) (enforced_placed r).rule.expr) fine.1
+    ∙ ap (results_of r.rule.name r.rule.labels (home_label r.namespace)) (value-of-rule r store t)
 
-abbrev server_rule : Moment → States → Ran → Recording → Ran
+given-own : (r : Placed) (store : Store) (t : Moment) → IsFinePlaced r → IfSome (given r store t) (Own r.namespace)
+given-own r store t fine =
+    subst (λ (o : Option Vector). IfSome o (Own r.namespace)) (sym (given-of r store t fine))
+    (results-own r.namespace r.rule.name r.rule.labels fine.0 (value_of (around (home_label r.namespace) (of_namespace r.namespace store) t) r.rule.expr))
+
+abbrev server_rule : Moment → States → Ran → Placed → Ran
 server_rule t before ran r = after_rule [] [] t before ran (enforced_placed r)
 
-abbrev own_rule : List ℕ → Moment → States → Ran → Recording → Ran
-own_rule n t before ran r = after_rule (home_label n) (home_label n) t before ran (written_placed r)
+abbrev own_rule : List ℕ → Moment → States → Ran → Placed → Ran
+own_rule n = after_rule (home_label n) (home_label n)
 
 last-of : (n : List ℕ) (states : States) (id : RuleId) → of_home n id ≡ true → last_of (states_of n states) id ≡ last_of states id
 last-of n states id own = find-where_key id_cmp (of_home n) id (alike id_cmp id_same (of_home n) id) states ∙ ap (λ b. cond b (find id_cmp id states) None) own
 
-own-rule : (r : Recording) (t : Moment) (before : States) (ran : Ran) → 0 < length r.namespace → OwnStates before → T (is_sorted id_cmp ran.states)
+own-rule : (r : Placed) (t : Moment) (before : States) (ran : Ran) → IsFinePlaced r → OwnStates before → T (is_sorted id_cmp ran.states)
     → ran_of r.namespace (server_rule t before ran r) ≡ own_rule r.namespace t (states_of r.namespace before) (ran_of r.namespace ran) r
-own-rule r t before ran some states h =
-    let id = id_of (enforced_placed r) in
-    own-results r t ran (last_of before id) (given r ran.store t) (given-own r ran.store t some) (own-find before id states) h
-    ∙ ap (after_results t (ran_of r.namespace ran) (written_placed r) (last_of before id)) (given-of r ran.store t)
-    ∙ ap (λ last. after_results t (ran_of r.namespace ran) (written_placed r) last
-    (results_of r.record_name [] (home_label r.namespace) (value_of (around (home_label r.namespace) (of_namespace r.namespace ran.store) t) (written_rule r).expr)))
-    (sym (last-of r.namespace before id (same_name r.namespace)))
+own-rule r t before ran fine states h =
+    let id = id_of r in
+    own-results r t ran (last_of before id) (given r ran.store t) (given-own r ran.store t fine) (own-find before id states) h
+    ∙ ap (after_results t (ran_of r.namespace ran) r (last_of before id)) (given-of r ran.store t fine)
+    ∙ ap (λ last. after_results t (ran_of r.namespace ran) r last (own_given r ran.store t)) (sym (last-of r.namespace before id (same_name r.namespace)))
 
-other-rule : (n : List ℕ) (r : Recording) (t : Moment) (before : States) (ran : Ran) → pointwise nat_eq n r.namespace ≡ false → 0 < length r.namespace → OwnStates before → T (is_sorted id_cmp ran.states)
+other-rule : (n : List ℕ) (r : Placed) (t : Moment) (before : States) (ran : Ran) → pointwise nat_eq n r.namespace ≡ false → IsFinePlaced r → OwnStates before → T (is_sorted id_cmp ran.states)
     → ran_of n (server_rule t before ran r) ≡ ran_of n ran
-other-rule n r t before ran other some states h =
-    let id = id_of (enforced_placed r) in
-    other-results n r t other ran (last_of before id) (given r ran.store t) (given-own r ran.store t some) (own-find before id states) h
+other-rule n r t before ran other fine states h =
+    let id = id_of r in
+    other-results n r t other ran (last_of before id) (given r ran.store t) (given-own r ran.store t fine) (own-find before id states) h
 
 -- states stay in order and their sets their own
-sorted-results : (t : Moment) (ran : Ran) (r : Recording) (last : Option (List Texts)) (results : Option Vector) → T (is_sorted id_cmp ran.states)
+sorted-results : (t : Moment) (ran : Ran) (r : Placed) (last : Option (List Texts)) (results : Option Vector) → T (is_sorted id_cmp ran.states)
     → T (is_sorted id_cmp (after_results t ran (enforced_placed r) last results).states)
 sorted-results t ran r None None h = h
-sorted-results t ran r (Some sets) None h = is_sorted-put id_cmp id_total (id_of (enforced_placed r)) sets ran.states h
-sorted-results t ran r last (Some results) h = is_sorted-put id_cmp id_total (id_of (enforced_placed r)) (labels_in results) ran.states h
+sorted-results t ran r (Some sets) None h = is_sorted-put id_cmp id_total (id_of r) sets ran.states h
+sorted-results t ran r last (Some results) h = is_sorted-put id_cmp id_total (id_of r) (labels_in results) ran.states h
 
-own-after : (t : Moment) (ran : Ran) (r : Recording) (last : Option (List Texts)) (results : Option Vector) → IfSome last (OwnSets r.namespace) → IfSome results (Own r.namespace)
+own-after : (t : Moment) (ran : Ran) (r : Placed) (last : Option (List Texts)) (results : Option Vector) → IfSome last (OwnSets r.namespace) → IfSome results (Own r.namespace)
     → OwnStates ran.states → OwnStates (after_results t ran (enforced_placed r) last results).states
 own-after t ran r None None sets own h = h
-own-after t ran r (Some last) None sets own h = own-state ran.states (id_of (enforced_placed r)) last sets h
-own-after t ran r last (Some results) sets own h = own-state ran.states (id_of (enforced_placed r)) (labels_in results) (own-labels r.namespace results own) h
-
-abbrev pub HaveHomes : List Recording → Type 0
-HaveHomes rules = AllByRecursion (λ (r : Recording). 0 < length r.namespace) rules
-
-abbrev pub is_of : List ℕ → Recording → Bool
-is_of n r = pointwise nat_eq n r.namespace
+own-after t ran r (Some last) None sets own h = own-state ran.states (id_of r) last sets h
+own-after t ran r last (Some results) sets own h = own-state ran.states (id_of r) (labels_in results) (own-labels r.namespace results own) h
 
 module _ (t : Moment) (before : States) (states : OwnStates before) where
   -- what all rules do is seen as what the own rules do
-  rules-of : (n : List ℕ) (rules : List Recording) (ran : Ran) → HaveHomes rules → T (is_sorted id_cmp ran.states)
-      → ran_of n (fold (server_rule t before) ran rules) ≡ fold (own_rule n t (states_of n before)) (ran_of n ran) (filter (is_of n) rules)
-  rules-of n [] ran homes h = refl
-  rules-of n (r ∷ rules) ran homes h =
-      let next = sorted-results t ran r (last_of before (id_of (enforced_placed r))) (given r ran.store t) h in
-      let rest = rules-of n rules (server_rule t before ran r) homes.1 next in
+  rules-of : (n : List ℕ) (rules : List Placed) (ran : Ran) → AreFine rules → T (is_sorted id_cmp ran.states)
+      → ran_of n (fold (server_rule t before) ran rules) ≡ fold (own_rule n t (states_of n before)) (ran_of n ran) (filter (is_placed n) rules)
+  rules-of n [] ran fine h = refl
+  rules-of n (r ∷ rules) ran fine h =
+      let next = sorted-results t ran r (last_of before (id_of r)) (given r ran.store t) h in
+      let rest = rules-of n rules (server_rule t before ran r) fine.1 next in
       elim (pointwise nat_eq n r.namespace) as (λ b. pointwise nat_eq n r.namespace ≡ b → ran_of n (fold (server_rule t before) (server_rule t before ran r) rules)
-      ≡ fold (own_rule n t (states_of n before)) (ran_of n ran) (cond b (r ∷ filter (is_of n) rules) (filter (is_of n) rules))) [
-        | true ↦ λ own. rest ∙ ap (λ (x : Ran). fold (own_rule n t (states_of n before)) x (filter (is_of n) rules))
+      ≡ fold (own_rule n t (states_of n before)) (ran_of n ran) (cond b (r ∷ filter (is_placed n) rules) (filter (is_placed n) rules))) [
+        | true ↦ λ own. rest ∙ ap (λ (x : Ran). fold (own_rule n t (states_of n before)) x (filter (is_placed n) rules))
             (subst (λ m. ran_of m (server_rule t before ran r) ≡ own_rule m t (states_of m before) (ran_of m ran) r) (sym ((bytes_decides n r.namespace).0 own))
-            (own-rule r t before ran homes.0 states h))
-        | false ↦ λ other. rest ∙ ap (λ (x : Ran). fold (own_rule n t (states_of n before)) x (filter (is_of n) rules)) (other-rule n r t before ran other homes.0 states h)
+            (own-rule r t before ran fine.0 states h))
+        | false ↦ λ other. rest ∙ ap (λ (x : Ran). fold (own_rule n t (states_of n before)) x (filter (is_placed n) rules)) (other-rule n r t before ran other fine.0 states h)
       ] refl
 
-  rules-sorted : (rules : List Recording) (ran : Ran) → T (is_sorted id_cmp ran.states) → T (is_sorted id_cmp (fold (server_rule t before) ran rules).states)
+  rules-sorted : (rules : List Placed) (ran : Ran) → T (is_sorted id_cmp ran.states) → T (is_sorted id_cmp (fold (server_rule t before) ran rules).states)
   rules-sorted [] ran h = h
   rules-sorted (r ∷ rules) ran h =
-      rules-sorted rules (server_rule t before ran r) (sorted-results t ran r (last_of before (id_of (enforced_placed r))) (given r ran.store t) h)
+      rules-sorted rules (server_rule t before ran r) (sorted-results t ran r (last_of before (id_of r)) (given r ran.store t) h)
 
-  rules-own : (rules : List Recording) (ran : Ran) → HaveHomes rules → OwnStates ran.states → OwnStates (fold (server_rule t before) ran rules).states
-  rules-own [] ran homes h = h
-  rules-own (r ∷ rules) ran homes h =
-      let id = id_of (enforced_placed r) in
-      rules-own rules (server_rule t before ran r) homes.1
-      (own-after t ran r (last_of before id) (given r ran.store t) (own-find before id states) (given-own r ran.store t homes.0) h)
-
--- the rules of all files
-placed-all : (f : Recording → RuleFile) (g : Recording → Placed) → ((r : Recording) → placed_in (f r) ≡ g r ∷ []) → (rules : List Recording) → placed_of (map f rules) ≡ map g rules
-placed-all f g one [] = refl
-placed-all f g one (r ∷ rules) = ap (λ l. l ++ placed_of (map f rules)) (one r) ∙ ap (λ l. g r ∷ l) (placed-all f g one rules)
+  rules-own : (rules : List Placed) (ran : Ran) → AreFine rules → OwnStates ran.states → OwnStates (fold (server_rule t before) ran rules).states
+  rules-own [] ran fine h = h
+  rules-own (r ∷ rules) ran fine h =
+      let id = id_of r in
+      rules-own rules (server_rule t before ran r) fine.1
+      (own-after t ran r (last_of before id) (given r ran.store t) (own-find before id states) (given-own r ran.store t fine.0) h)
 
 fold-map : {A B C : Type 0} (f : C → B → C) (g : A → B) (c : C) (xs : List A) → fold f c (map g xs) ≡ fold (λ d x. f d (g x)) c xs
 fold-map f g c [] = refl
@@ -118,17 +108,12 @@ fold-map f g c (x ∷ xs) = fold-map f g (f c (g x)) xs
 abbrev beginning_ran : Store → Ran
 beginning_ran store = record { store = store; states = []; failed = [] }
 
-server-rules : (rules : List Recording) (t : Moment) (before : States) (store : Store)
-    → after_rules (map file_of rules) [] [] t before store ≡ fold (server_rule t before) (beginning_ran store) rules
-server-rules rules t before store =
-    ap (fold (after_rule [] [] t before) (beginning_ran store)) (placed-all file_of enforced_placed (λ r. refl) rules)
-    ∙ fold-map (after_rule [] [] t before) enforced_placed (beginning_ran store) rules
-
-own-rules : (n : List ℕ) (rules : List Recording) (t : Moment) (before : States) (store : Store)
-    → after_rules (map written_file rules) (home_label n) (home_label n) t before store ≡ fold (own_rule n t before) (beginning_ran store) rules
-own-rules n rules t before store =
-    ap (fold (after_rule (home_label n) (home_label n) t before) (beginning_ran store)) (placed-all written_file written_placed (λ r. refl) rules)
-    ∙ fold-map (after_rule (home_label n) (home_label n) t before) written_placed (beginning_ran store) rules
+-- the rules of all files
+server-rules : (files : List RuleFile) (t : Moment) (before : States) (store : Store)
+    → after_rules (map enforced_file files) [] [] t before store ≡ fold (server_rule t before) (beginning_ran store) (placed_of files)
+server-rules files t before store =
+    ap (fold (after_rule [] [] t before) (beginning_ran store)) (placed-enforced files)
+    ∙ fold-map (after_rule [] [] t before) enforced_placed (beginning_ran store) (placed_of files)
 
 -- the staleness markers of rules that are gone
 gone-of : (n : List ℕ) (t : Moment) (before after : States) → OwnStates before
@@ -157,17 +142,17 @@ gone-of n t (s ∷ before) after h =
           ]
     ] refl
 
--- a round of all rules is seen as the round of the own rules
-pub round-of : (n : List ℕ) (rules : List Recording) (t : Moment) (before : States) (store : Store) → HaveHomes rules → OwnStates before
-    → ran_of n (round_of (map file_of rules) [] [] t before store)
-    ≡ round_of (map written_file (filter (is_of n) rules)) (home_label n) (home_label n) t (states_of n before) (of_namespace n store)
-round-of n rules t before store homes states =
-    let server = fold (server_rule t before) (beginning_ran store) rules in
-    let own = fold (own_rule n t (states_of n before)) (beginning_ran (of_namespace n store)) (filter (is_of n) rules) in
-    let seen : ran_of n (fold (server_rule t before) (beginning_ran store) rules)
-    ≡ fold (own_rule n t (states_of n before)) (beginning_ran (of_namespace n store)) (filter (is_of n) rules) =
-    rules-of t before states n rules (beginning_ran store) homes tt in
-    ap (λ ran. ran_of n (without_gone t before ran)) (server-rules rules t before store)
+-- a round of all files with the enforced label is seen as the round of the own files as they are written
+pub round-of : (n : List ℕ) (files : List RuleFile) (t : Moment) (before : States) (store : Store) → AllByRecursion IsFineFile files → OwnStates before
+    → ran_of n (round_of (map enforced_file files) [] [] t before store)
+    ≡ round_of (filter (is_of n) files) (home_label n) (home_label n) t (states_of n before) (of_namespace n store)
+round-of n files t before store fine states =
+    let server = fold (server_rule t before) (beginning_ran store) (placed_of files) in
+    let seen : ran_of n (fold (server_rule t before) (beginning_ran store) (placed_of files))
+    ≡ after_rules (filter (is_of n) files) (home_label n) (home_label n) t (states_of n before) (of_namespace n store) =
+    rules-of t before states n (placed_of files) (beginning_ran store) (placed-fine files fine) tt
+    ∙ ap (fold (own_rule n t (states_of n before)) (beginning_ran (of_namespace n store))) (placed-of_home n files) in
+    ap (λ ran. ran_of n (without_gone t before ran)) (server-rules files t before store)
     ∙ (λ i. record {
       store = (with_all-of n server.store (gone_entries t (gone before server.states))
           ∙ ap (with_all (of_namespace n server.store)) (gone-of n t before server.states states)) i;
@@ -175,13 +160,13 @@ round-of n rules t before store homes states =
       failed = (ran_of n server).failed;
     })
     ∙ ap (without_gone t (states_of n before)) seen
-    ∙ ap (without_gone t (states_of n before)) (sym (own-rules n (filter (is_of n) rules) t (states_of n before) (of_namespace n store)))
 
--- what a round leaves is in order, and its namespace's
-pub round-own : (rules : List Recording) (t : Moment) (before : States) (store : Store) → HaveHomes rules → OwnStates before
-    → OwnStates (round_of (map file_of rules) [] [] t before store).states
-round-own rules t before store homes states =
-    subst (λ (ran : Ran). OwnStates ran.states) (sym (server-rules rules t before store)) (rules-own t before states rules (beginning_ran store) homes tt)
+-- what a round leaves is its namespace's
+pub round-own : (files : List RuleFile) (t : Moment) (before : States) (store : Store) → AllByRecursion IsFineFile files → OwnStates before
+    → OwnStates (round_of (map enforced_file files) [] [] t before store).states
+round-own files t before store fine states =
+    subst (λ (ran : Ran). OwnStates ran.states) (sym (server-rules files t before store))
+    (rules-own t before states (placed_of files) (beginning_ran store) (placed-fine files fine) tt)
 
 -- a round adds to the store
 abbrev pub Adds : Store → Store → Type 0

@@ -6,27 +6,28 @@ use Rattle.std.specs.Ordering.{nat_cmp}
 use Rattle.std.specs.Cmp.Lexicographic.{slice_cmp}
 use Rattle.std.specs.FinMap.Entries.{is_sorted}
 use Rattle.op_base.specs.declared.moment.Moment.{Moment}
-use Rattle.op_base.specs.Maps.{value_at, values_of}
+use Rattle.op_base.specs.Maps.{value_at}
+use Rattle.cfg_types.specs.declared.config.RuleFile.{RuleFile}
 use Rattle.op_thin.specs.declared.rule.ThinRule.{ThinRule}
 use Rattle.op_thin.specs.declared.probe.ThinProbe.{ThinProbe}
-use Rattle.op_thin.specs.declared.recording.Recording.{Recording}
 use Rattle.op_thin.specs.Compiled.{config_of, file_of, job_of}
 use Rattle.op_thin.specs.FileOrder.{in_order}
 use Rattle.op_thin.specs.Objects.{inner_at, all_of}
 use Rattle.op_thin.specs.ThinProbes.{is_thin_text}
+use Rattle.srv_store.specs.declared.entry.Entry.{Entry}
 use Rattle.srv_store.specs.Stores.{of_namespace}
 use Rattle.srv_scrape.specs.Ticks.{scraped_entries}
 use Rattle.srv_run.specs.Memories.{ticked}
 use Rattle.srv_run.specs.Served.{tick_of}
 use Rattle.tenant_world.specs.Runs.{World}
 use Rattle.tenant_world.specs.Tenants.{Tenant, home_label, written_file, written_files, probe_entries, own_entries, own_ticked}
+use Rattle.tenant_world.proofs.EnforcedFiles.{enforced_file, IsFineFile, is_of}
 use Rattle.tenant_world.proofs.MemoryLaws.{memory_of, ticked_of, ticked-of, ticked-own}
 use Rattle.tenant_world.proofs.NameLemmas.{name-some, name-slash, name-plain, thin-some, thin-plain}
 use Rattle.tenant_world.proofs.ObjectLaws.{Good, all-at, all-homes}
-use Rattle.tenant_world.proofs.OrderLaws.{ordered, in_order-map, ordered-of, all-ordered}
-use Rattle.tenant_world.proofs.RecordingLaws.{recordings, recordings-of, recordings-have}
+use Rattle.tenant_world.proofs.OrderLaws.{in_order-map, ordered-of, all-ordered, HasNoSlash}
+use Rattle.tenant_world.proofs.RecordingLaws.{recordings, recordings-of, recordings-have, enforced-written, written-of, written-have, written-fine}
 use Rattle.tenant_world.proofs.RoundLaws.{OwnStates}
-use Rattle.tenant_world.proofs.RulesLaws.{HaveHomes, is_of}
 use Rattle.tenant_world.proofs.ScrapeLaws.{IsThin, probes-of}
 
 abbrev by_bytes : List ℕ → List ℕ → Ordering
@@ -64,19 +65,21 @@ seen n world = record {
 
 -- a tick of the configuration is seen as the tick of the own world
 module _ (n : List ℕ) (world : World) (good : GoodWorld world) (t : Moment) where
-  abbrev running : List Recording
-  running = recordings (all_of world.objects.rules)
+  -- the rules that run, as they are written
+  abbrev running : List RuleFile
+  running = map written_file (recordings (all_of world.objects.rules))
 
-  files_are : in_order (map file_of running) ≡ map file_of (ordered running)
-  files_are = in_order-map file_of (λ r. refl) running
+  files_are : in_order (map file_of (recordings (all_of world.objects.rules))) ≡ map enforced_file (in_order running)
+  files_are = ap in_order (enforced-written (recordings (all_of world.objects.rules))) ∙ in_order-map enforced_file (λ file. refl) running
 
-  own_files : map written_file (filter (is_of n) (ordered running)) ≡ written_files (inner_at world.objects.rules n)
+  own_files : filter (is_of n) (in_order running) ≡ written_files (inner_at world.objects.rules n)
   own_files =
-      ap (map written_file) (ordered-of n running
-      (recordings-have (λ m. AllByRecursion (λ b. nat_eq b 47 ≡ false) m) (all_of world.objects.rules)
-      (all-homes rule_home IsAnyRule (λ r. AllByRecursion (λ b. nat_eq b 47 ≡ false) r.namespace) (λ r named fine. name-slash r.namespace named) world.objects.rules good.rules))
-      ∙ ap ordered (recordings-of n (all_of world.objects.rules) ∙ ap recordings (all-at rule_home IsAnyRule n world.objects.rules good.rules)))
-      ∙ sym (in_order-map written_file (λ r. refl) (recordings (values_of (inner_at world.objects.rules n))))
+      ordered-of n running
+      (written-have HasNoSlash (recordings (all_of world.objects.rules))
+      (recordings-have HasNoSlash (all_of world.objects.rules)
+      (all-homes rule_home IsAnyRule (λ r. HasNoSlash r.namespace) (λ r named fine. name-slash r.namespace named) world.objects.rules good.rules)))
+      ∙ ap in_order (written-of n (recordings (all_of world.objects.rules))
+      ∙ ap (map written_file) (recordings-of n (all_of world.objects.rules) ∙ ap recordings (all-at rule_home IsAnyRule n world.objects.rules good.rules)))
 
   own_scrapes : of_namespace n (scraped_entries world.served.pages t (map job_of (all_of world.objects.probes))) ≡ own_entries n (seen n world) t
   own_scrapes =
@@ -86,18 +89,22 @@ module _ (n : List ℕ) (world : World) (good : GoodWorld world) (t : Moment) wh
       world.objects.probes good.probes)
       ∙ ap (flat_map (probe_entries n world.served.pages t)) (all-at probe_home HasThinTexts n world.objects.probes good.probes)
 
-  homes : HaveHomes (ordered running)
-  homes = all-ordered (λ r. 0 < length r.namespace) running
+  fine_files : AllByRecursion IsFineFile (in_order running)
+  fine_files = all-ordered IsFineFile running
+      (written-fine (recordings (all_of world.objects.rules))
       (recordings-have (λ m. 0 < length m) (all_of world.objects.rules)
-      (all-homes rule_home IsAnyRule (λ r. 0 < length r.namespace) (λ r named fine. name-some r.namespace named) world.objects.rules good.rules))
+      (all-homes rule_home IsAnyRule (λ r. 0 < length r.namespace) (λ r named fine. name-some r.namespace named) world.objects.rules good.rules)))
+
+  abbrev entries : List Entry
+  entries = scraped_entries world.served.pages t (map job_of (all_of world.objects.probes))
 
   pub tick-seen : ticked_of n (tick_of (config_of world.objects) world.served t) ≡ own_ticked n (seen n world) t
   tick-seen =
-      ap (λ files. ticked_of n (ticked (scraped_entries world.served.pages t (map job_of (all_of world.objects.probes))) files [] [] world.served.memory t)) files_are
-      ∙ ticked-of n (scraped_entries world.served.pages t (map job_of (all_of world.objects.probes))) (ordered running) world.served.memory t homes good.states
+      ap (λ files. ticked_of n (ticked entries files [] [] world.served.memory t)) files_are
+      ∙ ticked-of n entries (in_order running) world.served.memory t fine_files good.states
       ∙ (λ i. ticked (own_scrapes i) (own_files i) (home_label n) (home_label n) (memory_of n world.served.memory) t)
 
   pub tick-own : OwnStates (tick_of (config_of world.objects) world.served t).memory.states
   tick-own =
-      subst (λ files. OwnStates (ticked (scraped_entries world.served.pages t (map job_of (all_of world.objects.probes))) files [] [] world.served.memory t).memory.states) (sym files_are)
-      (ticked-own n (scraped_entries world.served.pages t (map job_of (all_of world.objects.probes))) (ordered running) world.served.memory t homes good.states)
+      subst (λ files. OwnStates (ticked entries files [] [] world.served.memory t).memory.states) (sym files_are)
+      (ticked-own n entries (in_order running) world.served.memory t fine_files good.states)
