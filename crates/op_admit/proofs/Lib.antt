@@ -1,0 +1,3 @@
+mod KindLemmas
+mod NameLemmas
+mod TagLemmas

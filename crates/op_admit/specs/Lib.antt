@@ -1,0 +1,3 @@
+pub mod Objects
+pub mod Selected
+pub mod SecretNames
