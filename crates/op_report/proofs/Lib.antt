@@ -1,3 +1,4 @@
 pub mod CleanLemmas
+pub mod FieldLemmas
 pub mod LineLemmas
 pub mod ReadBackLemmas

@@ -8,7 +8,7 @@ use Rattle.op_report.specs.declared.line.TheConstants.{TAB}
 use Rattle.op_report.specs.declared.view.Also.{Also}
 use Rattle.op_report.specs.declared.view.Report.{Report}
 use Rattle.op_report.specs.declared.view.View.{View}
-use Rattle.op_report.specs.declared.view.View.TheVariants.{Own, Page, Bad, BadFile, Long, LateTick, Tick, NotYetLine, NotYetFile}
+use Rattle.op_report.specs.declared.view.View.TheVariants.{Own, Admin, Change, Targets, TargetsRefused, Page, Bad, BadFile, Long, LateTick, Tick, NotYetLine, NotYetFile}
 use Rattle.op_report.specs.Ticks.{alert_json, failed_json, stored_json}
 
 -- one text, or none
@@ -26,17 +26,34 @@ abbrev pub change_word : Bool → List ℕ
 change_word true = codes "delete"
 change_word false = codes "put"
 
--- the fields that each put or delete has
+-- the fields that each put or delete of a tenant's object has
 abbrev pub own_fields : Bool → List ℕ → List ℕ → List Also → List (List ℕ × Json)
 own_fields deleted key answer also =
     (codes "also", array_of (map also_json also)) ∷ (codes "answer", text answer) ∷ (change_word deleted, text key) ∷ []
 
+-- the fields that each put or delete of an object has that is everyone's
+abbrev pub admin_fields : Bool → List ℕ → List ℕ → List (List ℕ × Json)
+admin_fields deleted key answer = (codes "answer", text answer) ∷ (change_word deleted, text key) ∷ []
+
+-- the rule that is broken and where, where there are any
+abbrev pub reason : Option (List ℕ) → Option (List ℕ) → List (List ℕ × Json)
+reason rule path = given (codes "rule") (option_map text rule) ++ given (codes "path") (option_map text path)
+
 -- the value that a line holds, by what it reports
 abbrev pub view_json : View → Json
 -- {"also":[..],"answer":ANSWER,"path":PATH,"put":KEY,"rule":RULE}
-view_json (Own deleted key answer rule path also) = object_of
-    (own_fields deleted key answer also
-    ++ given (codes "rule") (option_map text rule) ++ given (codes "path") (option_map text path))
+view_json (Own deleted key answer rule path also) = object_of (own_fields deleted key answer also ++ reason rule path)
+-- {"answer":ANSWER,"kept":KEPT,"path":PATH,"put":KEY,"rule":RULE}
+view_json (Admin deleted key answer rule path kept) = object_of
+    (admin_fields deleted key answer ++ (reason rule path ++ given (codes "kept") (option_map text kept)))
+-- {"also":[..],"change":KEY}
+view_json (Change key also) = object_of ((codes "also", array_of (map also_json also)) ∷ (codes "change", text key) ∷ [])
+-- {"answer":"Admitted","targets":COUNT}
+view_json (Targets count) = object_of
+    ((codes "answer", text (codes "Admitted")) ∷ (codes "targets", whole (pos count)) ∷ [])
+-- {"answer":"Refused","path":PATH,"rule":RULE}
+view_json (TargetsRefused rule path) = object_of
+    ((codes "answer", text (codes "Refused")) ∷ (codes "path", text path) ∷ (codes "rule", text rule) ∷ [])
 -- {"answer":"Admitted","page":URL}
 view_json (Page url) = object_of ((codes "answer", text (codes "Admitted")) ∷ (codes "page", text url) ∷ [])
 -- {"bad":RULE,"line":LINE,"path":PATH}
@@ -96,6 +113,10 @@ is_good answer =
 -- each answer of the view is a good one
 abbrev pub answers_well : View → Bool
 answers_well (Own deleted key answer rule path also) = is_good answer && list_all (λ one. is_good one.answer) also
+answers_well (Admin deleted key answer rule path kept) = is_good answer
+answers_well (Change key also) = list_all (λ one. is_good one.answer) also
+answers_well (Targets count) = true
+answers_well (TargetsRefused rule path) = false
 answers_well (Page url) = true
 answers_well (Bad rule line path) = false
 answers_well (BadFile rule file item path) = false

@@ -11,6 +11,10 @@ pub fn answers_well(view: &View) -> bool
 {
     match view {
         View::Own { answer, also, .. } => is_good(answer.as_str()) && all_good(also.as_slice()),
+        View::Admin { answer, .. } => is_good(answer.as_str()),
+        View::Change { also, .. } => all_good(also.as_slice()),
+        View::Targets { .. } => true,
+        View::TargetsRefused { .. } => false,
         View::Page { .. } | View::Tick { .. } => true,
         View::BadFile { .. } => false,
         View::Bad { .. } | View::Long { .. } | View::LateTick { .. } => false,

@@ -6,6 +6,7 @@
 #![tactic(auto)]
 
 mod answer;
+mod change;
 mod line;
 mod listed;
 mod read_back;

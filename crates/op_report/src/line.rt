@@ -1,17 +1,16 @@
-ghost use Rattle.std.specs.Prelude.{◌≡◌, true, pos, map, option_map, ◌∷◌, ◌++◌, [], IfOk, IfSome, OnOk};
+ghost use Rattle.std.specs.Prelude.{◌≡◌, true, IfOk, IfSome};
 ghost use Rattle.serde_json.specs.View as shown;
 ghost use Rattle.op_base.specs.Names.{is_namespace};
-ghost use Rattle.op_json.specs.Json.{data_of, members_after, fields_of};
-ghost use Rattle.serde_json.specs.Data.{no_members};
+ghost use Rattle.op_json.specs.Json.{data_of};
 ghost use Rattle.op_report.specs.Lines as spec;
 ghost use Rattle.op_report.specs.Lines.{IsOneLine};
 
-use crate::listed::{Listed, array_value};
+use crate::change::{admin_value, change_value, own_value};
 use crate::tick::tick_value;
-use crate::view::{Also, Report, View};
+use crate::view::{Report, View};
 use op_base::{List, Moment, NoMemory, Text};
-use op_json::{push_item, put_field, put_text, put_text_if, text_of};
-use serde_json::{Map, Value, json};
+use op_json::text_of;
+use serde_json::{Value, json};
 use std::alloc::Global;
 
 // What stands behind the addressee of a line.
@@ -70,6 +69,17 @@ fn view_value(alloc: Global, view: &View) -> Result<Value, NoMemory>
             path,
             also,
         } => own_value(alloc, *deleted, key, answer, rule, path, also),
+        View::Admin {
+            deleted,
+            key,
+            answer,
+            rule,
+            path,
+            kept,
+        } => admin_value(alloc, *deleted, key, answer, rule, path, kept),
+        View::Change { key, also } => change_value(alloc, key, also),
+        View::Targets { count } => targets_value(alloc, *count),
+        View::TargetsRefused { rule, path } => targets_refused_value(alloc, rule, path),
         View::Page { url } => page_value(alloc, url),
         View::Bad { rule, line, path } => bad_value(alloc, rule, *line, path),
         View::BadFile {
@@ -96,6 +106,20 @@ fn page_value(alloc: Global, url: &Text) -> Result<Value, NoMemory>
 {
     let url = url.as_str();
     Ok(json!(in alloc; {"answer": "Admitted", "page": url})?)
+}
+
+fn targets_value(alloc: Global, count: u64) -> Result<Value, NoMemory>
+    ensures { IfOk result (λ value. shown.view value ≡ data_of (spec.view_json (View.Targets count))) }
+{
+    Ok(json!(in alloc; {"answer": "Admitted", "targets": count})?)
+}
+
+fn targets_refused_value(alloc: Global, rule: &Text, path: &Text) -> Result<Value, NoMemory>
+    ensures { IfOk result (λ value. shown.view value
+        ≡ data_of (spec.view_json (View.TargetsRefused rule.now path.now))) }
+{
+    let (rule, path) = (rule.as_str(), path.as_str());
+    Ok(json!(in alloc; {"answer": "Refused", "path": path, "rule": rule})?)
 }
 
 fn bad_value(alloc: Global, rule: &Text, line: u64, path: &Text) -> Result<Value, NoMemory>
@@ -144,81 +168,4 @@ fn not_yet_value(alloc: Global, file: &Text, item: u64) -> Result<Value, NoMemor
 {
     let file = file.as_str();
     Ok(json!(in alloc; {"bad": "NotYet", "file": file, "item": item})?)
-}
-
-fn own_value(
-    alloc: Global,
-    deleted: bool,
-    key: &Text,
-    answer: &Text,
-    rule: &Option<Text>,
-    path: &Option<Text>,
-    also: &List<Also>,
-) -> Result<Value, NoMemory>
-    ensures { IfOk result (λ value. shown.view value
-        ≡ data_of (spec.view_json (View.Own deleted key.now answer.now rule.now path.now also.now))) }
-{
-    let mut fields = own_fields(alloc, deleted, key, answer, also)?;
-    put_text_if(&mut fields, alloc, "rule", borrowed(rule))?;
-    put_text_if(&mut fields, alloc, "path", borrowed(path))?;
-    Ok(Value::Object(fields))
-}
-
-fn own_fields(
-    alloc: Global,
-    deleted: bool,
-    key: &Text,
-    answer: &Text,
-    also: &List<Also>,
-) -> Result<Map<String, Value>, NoMemory>
-    ensures { IfOk result (λ fields. shown.members_view fields.entries
-        ≡ members_after no_members (fields_of (spec.own_fields deleted key.now answer.now also.now))) }
-{
-    let also = array_value(alloc, also)?;
-    let mut fields = Map::new(alloc);
-    put_field(&mut fields, alloc, "also", also)?;
-    put_text(&mut fields, alloc, "answer", answer.as_str())?;
-    put_text(&mut fields, alloc, change_word(deleted), key.as_str())?;
-    Ok(fields)
-}
-
-fn change_word(deleted: bool) -> &'static str
-    ensures { result.now ≡ spec.change_word deleted }
-{
-    if deleted { "delete" } else { "put" }
-}
-
-fn borrowed(text: &Option<Text>) -> Option<&str>
-    ensures { option_map (λ t. t.now) result ≡ text.now }
-{
-    match text {
-        Some(text) => Some(text.as_str()),
-        None => None,
-    }
-}
-
-impl Listed for Also {
-    ghost use Rattle.op_report.specs.Lines.{also_json};
-
-    ghost json = { also_json };
-
-    fn value(&self, alloc: Global) -> Result<Value, NoMemory> {
-        let mut texts = Vec::new(alloc);
-        push_text(&mut texts, alloc, Some(self.key.as_str()))?;
-        push_text(&mut texts, alloc, Some(self.answer.as_str()))?;
-        push_text(&mut texts, alloc, borrowed(&self.rule))?;
-        push_text(&mut texts, alloc, borrowed(&self.path))?;
-        Ok(Value::Array(texts))
-    }
-}
-
-fn push_text(values: &mut Vec<Value>, alloc: Global, text: Option<&str>) -> Result<(), NoMemory>
-    ensures { OnOk result (map shown.view values.new.items
-        ≡ map shown.view values.old.items
-        ++ map data_of (spec.texts_of (option_map (λ t. t.now) text.entry))) }
-{
-    match text {
-        Some(text) => push_item(values, Value::String(String::from_str(alloc, text)?)),
-        None => Ok(()),
-    }
 }

@@ -34,6 +34,30 @@ pub enum View {
         path: Option<Text>,
         also: List<Also>,
     },
+    /// A put or delete of a Prometheus, an Alertmanager or a Namespace: a rule and a path for a refused or skipped
+    /// object alone, and the key of the object that stands where it isn't taken beside another of its kind.
+    Admin {
+        deleted: bool,
+        key: Text,
+        answer: Text,
+        rule: Option<Text>,
+        path: Option<Text>,
+        kept: Option<Text>,
+    },
+    /// What such a change means for the objects of a namespace.
+    Change {
+        key: Text,
+        also: List<Also>,
+    },
+    /// The discovered entries of a namespace were replaced: by so many.
+    Targets {
+        count: u64,
+    },
+    /// Discovered entries that break a shape rule.
+    TargetsRefused {
+        rule: Text,
+        path: Text,
+    },
     /// A page was taken.
     Page {
         url: Text,
