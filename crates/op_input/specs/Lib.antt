@@ -1,5 +1,11 @@
-pub mod Keys
-pub mod Ticks
-pub mod Samples
+pub mod InputLines
+pub mod Events
+pub mod Owners
+pub mod Puts
+pub mod Deletes
+pub mod Targets
 pub mod Pages
+pub mod Samples
+pub mod Ticks
+pub mod Keys
 pub mod Lines

@@ -1,12 +1,16 @@
-ghost use Rattle.std.specs.Prelude.{[], codes, IfOk};
+ghost use Rattle.std.specs.Prelude.{◌≡◌, [], codes, IfOk};
+ghost use Rattle.std.specs.Option.{option_map_or};
 ghost use Rattle.op_manifest.specs.Trees.{data_of, items_in};
 ghost use Rattle.op_manifest.specs.Shapes.{Adds};
 ghost use Rattle.op_manifest.specs.Checks as check;
 ghost use Rattle.op_manifest.specs.Values as value;
 ghost use Rattle.op_input.specs.Lines.{IsWithin};
 ghost use Rattle.op_input.specs.Samples.{sample, sample_of};
+ghost use Rattle.op_input.specs.Events.{HasTime, event_of, page, bad};
+ghost use Rattle.op_input.specs.InputLines as lines;
 ghost use Rattle.op_input.specs.Pages as spec;
 
+use crate::event::InputEvent;
 use crate::line::InputLine;
 use crate::sample::noted_sample;
 use op_base::{List, NoMemory, Text};
@@ -20,14 +24,48 @@ pub fn noted_page(
     alloc: Global,
     tree: &Tree,
 ) -> Result<InputLine, NoMemory>
-    ensures page { Adds (λ page. page) found.old found.new result
+    ensures page { Adds (λ read. read) found.old found.new result
         (check.table spec.page_rows [] (data_of tree.now)) (spec.page_of (data_of tree.now)) }
     ensures within { IfOk result IsWithin }
+{
+    let (url, samples) = noted_parts(found, alloc, tree)?;
+    Ok(InputLine::Page { url, samples })
+}
+
+/// The page that the value is, or its first breach.
+#[tactic(auto, using(op_manifest::proofs::ShapeLemmas::later_first))]
+pub fn read_page(alloc: Global, tree: &Tree) -> Result<InputEvent, NoMemory>
+    ensures event { IfOk result (λ event. event_of event ≡ lines.page_event (data_of tree.now)) }
+    ensures time { IfOk result HasTime }
+{
+    let mut found = None;
+    let (url, samples) = noted_parts(&mut found, alloc, tree)?;
+    Ok(page_or_breach(url, samples, found))
+}
+
+fn page_or_breach(url: Text, samples: Option<List<Sample>>, found: Option<Shape>) -> InputEvent
+    ensures event { event_of result ≡ option_map_or bad found (page url samples) }
+    ensures time { HasTime result }
+{
+    match found {
+        Some(shape) => InputEvent::Bad(shape),
+        None => InputEvent::Page(url, samples),
+    }
+}
+
+// The URL and the samples.
+fn noted_parts(
+    found: &mut Option<Shape>,
+    alloc: Global,
+    tree: &Tree,
+) -> Result<(Text, Option<List<Sample>>), NoMemory>
+    ensures { Adds (λ parts. parts) found.old found.new result
+        (check.table spec.page_rows [] (data_of tree.now)) (spec.url_of (data_of tree.now), spec.samples_of (data_of tree.now)) }
 {
     noted_known(found, alloc, tree, &["url", "samples"], "")?;
     let url = needed_text(found, alloc, tree, "url", "")?;
     let samples = noted_samples(found, alloc, tree)?;
-    Ok(InputLine::Page { url, samples })
+    Ok((url, samples))
 }
 
 #[tactic(auto, using(op_manifest::proofs::ShapeLemmas::later_none), unfolding(op_manifest::specs::Checks::optional, op_manifest::specs::Checks::list, op_manifest::specs::Values::items_in))]

@@ -1,11 +1,15 @@
 ghost use Rattle.std.specs.Prelude.{◌≡◌, ◌≤◌, [], is_some, unwrap_or};
+ghost use Rattle.std.specs.Option.{option_map_or};
 ghost use Rattle.serde_json.specs.View.{number_view};
 ghost use Rattle.op_base.specs.Moments.{IsTick};
 ghost use Rattle.op_manifest.specs.Trees.{data_of};
 ghost use Rattle.op_manifest.specs.Shapes as shapes;
 ghost use Rattle.op_manifest.specs.Checks as check;
+ghost use Rattle.op_input.specs.Events.{HasTime, event_of, tick, bad};
+ghost use Rattle.op_input.specs.InputLines as lines;
 ghost use Rattle.op_input.specs.Ticks as spec;
 
+use crate::event::InputEvent;
 use op_base::{LAST_MOMENT, Moment, Text};
 use op_manifest::{Shape, ShapeRule, Tree, number_within, tell};
 use serde_json::Number;
@@ -18,6 +22,28 @@ pub fn noted_moment(found: &mut Option<Shape>, alloc: Global, tree: &Tree) -> Mo
     ensures within { IsTick result }
 {
     Moment(noted_whole(found, alloc, tree) as i64)
+}
+
+/// The tick that the value is, or its breach.
+#[tactic(auto, using(op_manifest::proofs::ShapeLemmas::later_first))]
+pub fn read_tick(alloc: Global, tree: &Tree) -> InputEvent
+    ensures event { event_of result ≡ lines.tick_event (data_of tree.now) }
+    ensures time { HasTime result }
+{
+    let mut found = None;
+    let moment = noted_moment(&mut found, alloc, tree);
+    tick_or_breach(moment, found)
+}
+
+fn tick_or_breach(moment: Moment, found: Option<Shape>) -> InputEvent
+    requires { IsTick moment }
+    ensures event { event_of result ≡ option_map_or bad found (tick moment) }
+    ensures time { HasTime result }
+{
+    match found {
+        Some(shape) => InputEvent::Bad(shape),
+        None => InputEvent::Tick(moment),
+    }
 }
 
 #[tactic(auto, unfolding(op_manifest::specs::Checks::whole))]

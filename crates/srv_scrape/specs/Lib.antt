@@ -1,3 +1,4 @@
+pub mod Discovered
 pub mod Joined
 pub mod Pages
 pub mod Scraped

@@ -4,7 +4,9 @@
 //! its target's, and `specs/Scraped.antt` which entries a scrape gives.
 #![tactic(auto)]
 
+mod discovered;
 mod discovery;
+mod found;
 mod jobs;
 mod join;
 mod labels;
@@ -15,7 +17,9 @@ mod target;
 mod tick;
 mod url;
 
+pub use discovered::Discovered;
 pub use discovery::targets;
+pub use found::{Found, Role};
 pub use jobs::scrape_all;
 pub use join::joined;
 pub use pages::{Pages, Sample};
