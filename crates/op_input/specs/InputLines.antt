@@ -27,12 +27,16 @@ tick_event d = option_map_or bad (first (whole [] d)) (tick (moment_of d))
 abbrev pub with_key : List ℕ → (Data → Event) → Data → Event → Event
 with_key key read d other = option_map_or read (only_field key d) other
 
--- a page or a tick; a value without exactly one known key is nobody's
+-- a value without exactly one known key is nobody's
+abbrev pub unknown : Event
+unknown = bad (broken UNKNOWN_KIND [])
+
+-- a page or a tick
 abbrev pub observed : Data → Event
 observed d =
     with_key (codes "page") page_event d
     (with_key (codes "tick") tick_event d
-    (bad (broken UNKNOWN_KIND [])))
+    unknown)
 
 -- a deletion or targets, or else such a one
 abbrev pub unput : Data → Event
@@ -48,3 +52,15 @@ value_event d = with_key (codes "put") put_of d (unput d)
 -- what a line's bytes ask for
 unfoldable pub line_event : List ℕ → Event
 line_event bytes = option_map_or bad (first (json_wrongs bytes)) (value_event (json_in bytes))
+
+-- a deletion
+abbrev pub deleted : Data → Event
+deleted d = with_key (codes "delete") delete_of d unknown
+
+-- what a line's JSON value asks for where manifests and deletions alone are known
+abbrev pub value_change : Data → Event
+value_change d = with_key (codes "put") put_of d (deleted d)
+
+-- what a line's bytes ask for there
+unfoldable pub line_change : List ℕ → Event
+line_change bytes = option_map_or bad (first (json_wrongs bytes)) (value_change (json_in bytes))

@@ -22,4 +22,4 @@ mod tick;
 
 pub use event::{InputEvent, own_namespace};
 pub use line::{InputLine, is_blank, read_line};
-pub use reading::read_input_line;
+pub use reading::{read_change_line, read_input_line};

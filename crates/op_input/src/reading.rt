@@ -29,6 +29,52 @@ pub fn read_input_line(alloc: Global, bytes: &[u8]) -> Result<InputEvent, NoMemo
     }
 }
 
+/// What the bytes of a line ask for where manifests and deletions alone are known: another key is none there, whatever
+/// stands at it.
+#[tactic(auto, unfolding(crate::specs::InputLines::line_change))]
+pub fn read_change_line(alloc: Global, bytes: &[u8]) -> Result<InputEvent, NoMemory>
+    ensures event { IfOk result (λ event. event_of event ≡ spec.line_change bytes.now) }
+    ensures time { IfOk result HasTime }
+{
+    match Tree::read(alloc, bytes) {
+        Ok(tree) => change_in(alloc, tree),
+        Err(ShapeFault::Broken(shape)) => Ok(InputEvent::Bad(shape)),
+        Err(ShapeFault::NoMemory) => Err(NoMemory),
+    }
+}
+
+fn change_in(alloc: Global, tree: Tree) -> Result<InputEvent, NoMemory>
+    ensures event { IfOk result (λ event. event_of event ≡ spec.value_change (data_of tree)) }
+    ensures time { IfOk result HasTime }
+{
+    if is_put(&tree) {
+        read_put(alloc, taken_out(tree, "put"))
+    } else {
+        deleted(alloc, &tree)
+    }
+}
+
+// A deletion, or no key that is known.
+fn deleted(alloc: Global, tree: &Tree) -> Result<InputEvent, NoMemory>
+    ensures event { IfOk result (λ event. event_of event ≡ spec.deleted (data_of tree.now)) }
+    ensures time { IfOk result HasTime }
+{
+    match only_field(tree, "delete") {
+        Some(value) => read_delete(alloc, value),
+        None => Ok(unknown(alloc)),
+    }
+}
+
+fn unknown(alloc: Global) -> InputEvent
+    ensures event { event_of result ≡ spec.unknown }
+    ensures time { HasTime result }
+{
+    InputEvent::Bad(Shape {
+        rule: ShapeRule::UNKNOWN_KIND,
+        path: Text::new(alloc),
+    })
+}
+
 // A manifest is taken out of its line; of another line the values are read in their place.
 fn event_in(alloc: Global, tree: Tree) -> Result<InputEvent, NoMemory>
     ensures event { IfOk result (λ event. event_of event ≡ spec.value_event (data_of tree)) }
@@ -70,10 +116,7 @@ fn observed(alloc: Global, tree: &Tree) -> Result<InputEvent, NoMemory>
         Some(value) => read_page(alloc, value),
         None => match only_field(tree, "tick") {
             Some(value) => Ok(read_tick(alloc, value)),
-            None => Ok(InputEvent::Bad(Shape {
-                rule: ShapeRule::UNKNOWN_KIND,
-                path: Text::new(alloc),
-            })),
+            None => Ok(unknown(alloc)),
         },
     }
 }

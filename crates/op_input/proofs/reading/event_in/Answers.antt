@@ -1,17 +1,15 @@
 -- What is taken out is the value of the one key.
-use Rattle.std.proofs.Common.{◌≡◌, ◌∙◌, IfOk, ap, codes, subst, sym}
-use Rattle.std.specs.Option.{option_map_or}
+use Rattle.std.proofs.Common.{◌≡◌, ◌∙◌, IfOk, ap, subst, sym}
 use Rattle.op_manifest.specs.Trees.{data_of}
 use Rattle.op_input.specs.Events.{event_of}
 use Rattle.op_input.specs.InputLines.{unput}
 use Rattle.op_input.specs.Puts.{put_of}
-use Rattle.op_input.proofs.FieldLemmas.{taken_alone}
+use Rattle.op_input.proofs.PutLemmas.{put_alone}
 use Rattle.op_input.proofs.reading.event_in.Goals as goal
 
 pub returns-then-is_put-clause-event : goal.returns-then-is_put-clause-event
 returns-then-is_put-clause-event c =
     let d = data_of c.args.tree in
-    let alone = taken_alone (codes "put") d (sym c.is_put.ensures ∙ c.if-is_put.true) in
     subst (λ asked. IfOk c.read_put.result (λ event. event_of event ≡ asked))
-    (ap put_of c.taken_out.ensures ∙ sym (ap (λ found. option_map_or put_of found (unput d)) alone))
+    (ap put_of c.taken_out.ensures ∙ put_alone d (unput d) (sym c.is_put.ensures ∙ c.if-is_put.true))
     c.read_put.ensures.event
