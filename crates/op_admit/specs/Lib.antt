@@ -1,3 +1,4 @@
 pub mod Objects
 pub mod Selected
 pub mod SecretNames
+pub mod EnforcedLabels
