@@ -1,0 +1,6 @@
+-- What was added so far are the first of them.
+use Rattle.std.proofs.Common.{◌≡◌, ◌++◌, take}
+use Rattle.gen_scrape.proofs.steps.push_steps.Given as goal
+
+abbrev pub invariant-loop-step : goal.invariant-loop-step
+invariant-loop-step l = l.steps ≡ l.initial.steps ++ take l.step-index l.more

@@ -1,0 +1,3 @@
+pub mod Dollars
+pub mod InForce
+pub mod ProbeJobs
