@@ -53,6 +53,14 @@ rule_file_of enforced object trees = record {
   groups = groups_of enforced object.key.namespace object.groups trees;
 }
 
+-- how many rules each group of an object has
+abbrev pub rule_counts : PrometheusRuleObject → List ℕ
+rule_counts object = map (λ group. length group.rules) object.groups
+
 -- how many rules an object has
 abbrev pub rule_count : PrometheusRuleObject → ℕ
-rule_count object = sum (map (λ group. length group.rules) object.groups)
+rule_count object = sum (rule_counts object)
+
+-- how many rules each group of a rule file has
+abbrev pub file_counts : RuleFile → List ℕ
+file_counts file = map (λ group. length group.rules) file.groups

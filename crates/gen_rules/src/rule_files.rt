@@ -21,7 +21,8 @@ pub fn rule_file(
     trees: &List<Expr>,
 ) -> Result<RuleFile, NoMemory>
     requires trees { length trees.now ≡ spec.rule_count object.now }
-    ensures { IfOk result (λ file. file ≡ spec.rule_file_of (option_copied enforced.entry) object.now trees.now) }
+    ensures file { IfOk result (λ file. file ≡ spec.rule_file_of (option_copied enforced.entry) object.now trees.now) }
+    ensures whole { IfOk result (λ file. spec.file_counts file ≡ spec.rule_counts object.now) }
 {
     let namespace = object.key.namespace.as_str();
     Ok(RuleFile {

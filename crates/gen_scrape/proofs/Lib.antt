@@ -1,1 +1,2 @@
 pub mod DollarLemmas
+pub mod SpanLemmas

@@ -1,7 +1,8 @@
 -- What is in force for the scrapes of an object, after the reference of the Prometheus Operator: what the object says,
 -- else what the Prometheus object says for all.
-use Rattle.std.specs.Prelude.{ℕ, zero, suc, min, int_le, Option, Some, None, unwrap_or, if◌then◌else◌}
+use Rattle.std.specs.Prelude.{ℕ, zero, suc, min, int_le, Option, Some, None, IfSome, unwrap_or, if◌then◌else◌}
 use Rattle.op_base.specs.declared.span.Span.{Span}
+use Rattle.cfg_types.specs.Jobs.{HasText}
 use Rattle.kind_admin.specs.declared.prometheus.PrometheusSpec.{PrometheusSpec}
 use Rattle.kind_scrape.specs.declared.handling.Timing.{Timing}
 
@@ -33,3 +34,8 @@ smaller (Some one) (Some other) = Some (min one other)
 -- how many samples a scrape may leave: what the object says or what is enforced upon all, whichever is smaller
 abbrev pub limit_in_force : PrometheusSpec → Option ℕ → Option ℕ
 limit_in_force prometheus own = smaller (set_limit own) (set_limit prometheus.enforced_sample_limit)
+
+-- the spans that are given have texts: those of the Prometheus object, and the object's own
+abbrev pub HasGivenSpans : PrometheusSpec → Timing → Type 0
+HasGivenSpans prometheus timing =
+    HasText prometheus.scrape_interval × HasText prometheus.scrape_timeout × IfSome timing.interval HasText × IfSome timing.scrape_timeout HasText

@@ -1,6 +1,8 @@
 ghost use Rattle.std.specs.Prelude.{◌≡◌, ◌++◌, true, IfOk, IfSome, OnOk};
 ghost use Rattle.std.specs.Option.{option_copied};
 ghost use Rattle.op_base.specs.Names.{is_label_name};
+ghost use Rattle.cfg_types.specs.Jobs.{HasJobSpans};
+ghost use Rattle.gen_scrape.specs.InForce.{HasGivenSpans};
 ghost use Rattle.gen_scrape.specs.ProbeJobs as spec;
 
 use crate::dollars::doubled_dollars;
@@ -24,7 +26,8 @@ pub fn probe_job(
 ) -> Result<Job, NoMemory>
     requires label { IfSome (option_copied enforced) (λ label. is_label_name label ≡ true) }
     requires steps { spec.StepsPass probe.now.spec }
-    ensures { IfOk result (λ job. job ≡ spec.probe_job_of prometheus.now (option_copied enforced.entry) probe.now) }
+    ensures job { IfOk result (λ job. job ≡ spec.probe_job_of prometheus.now (option_copied enforced.entry) probe.now) }
+    ensures spans { HasGivenSpans prometheus.now probe.now.spec.timing → IfOk result HasJobSpans }
 {
     let asked = &probe.spec;
     Ok(Job {
